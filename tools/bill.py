@@ -100,16 +100,18 @@ def own_crate(name: str, of: Release) -> Part:
 def work(of: Work) -> Part:
     """The libraries of the toolchain that follow a work of others: its own words, holders and license."""
     made: Part = {"type": "library", "bom-ref": f"work:{of.name}", "name": of.name}
-    found = FOLLOWED.findall(of.said)
-    if versions := [version for name, version in found if name == of.name]:
+    matches = FOLLOWED.findall(of.said)
+    if versions := [version for name, version in matches if name == of.name]:
         made["version"] = versions[0]
     made |= {"description": of.said.replace("`", ""), "licenses": licenses(of.license)}
     made["copyright"] = "\n".join(of.copyrights)
-    if found:
+    if matches:
         # (what is in the program was written after these: a fault of theirs may be one of it)
-        ancestors = [{"type": "library", "name": name, "version": version} for name, version in found]
+        ancestors = [{"type": "library", "name": name, "version": version} for name, version in matches]
         if "Rust crate" in of.said:
-            ancestors = [{**it, "purl": f"pkg:cargo/{it['name']}@{it['version']}"} for it in ancestors]
+            ancestors = [
+                {**ancestor, "purl": f"pkg:cargo/{ancestor['name']}@{ancestor['version']}"} for ancestor in ancestors
+            ]
         made["pedigree"] = {"ancestors": ancestors}
     if of.crates:
         made["properties"] = [{"name": "sabrethog:crate", "value": crate} for crate in of.crates]
@@ -136,13 +138,13 @@ class Asked(NamedTuple):
 
 def packages(control: str) -> list[Asked]:
     """The packages of Debian that a control file names, in its order."""
-    found = []
+    packages = []
     for field in SCOPES:
         line = re.search(rf"^{field}: (.+)$", control, re.M)
         for one in line[1].split(", ") if line else ():
             name, _, versions = one.partition(" ")
-            found.append(Asked(name, versions.strip("()"), field))
-    return found
+            packages.append(Asked(name, versions.strip("()"), field))
+    return packages
 
 
 def package(asked: Asked) -> Part:
@@ -162,10 +164,10 @@ def dependencies(
 ) -> Any:
     """What each component rests on: the package, the program, its crates, and the works that libraries follow."""
     of_work = {crate: of.name for of in works for crate in of.crates}
-    on: dict[str, list[str]] = {head: ["file:usr/bin/cpi", *(f"deb:{it.name}" for it in debian)]}
+    on: dict[str, list[str]] = {head: ["file:usr/bin/cpi", *(f"deb:{query.name}" for query in debian)]}
     # (some works are in no library that a crate names: they come with the toolchain)
     on["file:usr/bin/cpi"] = [f"crate:{PROGRAM}", *(f"work:{of.name}" for of in works)]
     for name in own:
-        rests = [f"crate:{it}" if it in crates else f"work:{of_work[it]}" for it in crates[name]]
+        rests = [f"crate:{crate}" if crate in crates else f"work:{of_work[crate]}" for crate in crates[name]]
         on[f"crate:{name}"] = list(dict.fromkeys(rests))
     return [{"ref": ref, "dependsOn": sorted(parts)} for ref, parts in on.items()]

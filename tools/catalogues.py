@@ -102,8 +102,8 @@ class Bad(Exception):
 def files_of(root: Path) -> Iterator[Path]:
     """The files that may have texts, in the order of their names."""
     for folder in ("web", "tools/cpi_tools"):
-        found = (path for path in (root / folder).rglob("*") if path.suffix in (".html", ".js", ".webmanifest", ".py"))
-        yield from sorted(path for path in found if path.is_file())
+        paths = (path for path in (root / folder).rglob("*") if path.suffix in (".html", ".js", ".webmanifest", ".py"))
+        yield from sorted(path for path in paths if path.is_file())
 
 
 def template(root: Path) -> Catalog:
@@ -205,8 +205,8 @@ def places(text: str) -> set[str]:
 def _parted(text: str, allowed: Collection[str]) -> set[str]:
     """The places of a translation; `{of_month}` is the place `{month}` with the word of its language before it, and
     `{Month}` the same with a capital letter."""
-    found = {it if it in allowed else plain_name(it) for it in places(text)}
-    return {it if it in allowed else it.removeprefix(OF) for it in found}
+    names = {place if place in allowed else plain_name(place) for place in places(text)}
+    return {name if name in allowed else name.removeprefix(OF) for name in names}
 
 
 def faults(catalog: Catalog, source: Catalog) -> Iterator[str]:
@@ -272,13 +272,13 @@ def forms_by_category(catalog: Catalog) -> dict[str, int]:
     counts that CLDR tells apart, so that a page couldn't choose it."""
     assert catalog.locale
     rule, form = catalog.locale.plural_form, form_of(catalog.plural_expr)
-    found: dict[str, int] = {}
+    forms: dict[str, int] = {}
     for count in COUNTS:
         category = rule(count)
-        if found.setdefault(category, form(count)) != form(count):
+        if forms.setdefault(category, form(count)) != form(count):
             raise Bad(f"Plural-Forms: {count} has another form than others of CLDR's category {category}")
-    found.setdefault("other", max(found.values()))
-    return found
+    forms.setdefault("other", max(forms.values()))
+    return forms
 
 
 def form_of(expression: str) -> Any:
@@ -360,8 +360,8 @@ def in_all_languages(text: str, catalogs: Iterable[Catalog]) -> str:
     """A page whose words for a browser without scripts, and in a section `data-all`, are in all languages, since nothing
     can choose one there."""
 
-    def in_all(found: re.Match[str]) -> str:
-        begin, source, kind, words, end = found.groups()
+    def in_all(match: re.Match[str]) -> str:
+        begin, source, kind, words, end = match.groups()
         lines = [source]
         for catalog in catalogs:
             message, locale = catalog.get(words), catalog.locale

@@ -75,33 +75,33 @@ def renaming_imports(part: str) -> list[str]:
 
 def spec_names() -> dict[str, set[str]]:
     """The names that spec files declare at their margin, and in which files; examples and declared types aside."""
-    found: dict[str, set[str]] = defaultdict(set)
+    names: dict[str, set[str]] = defaultdict(set)
     for file, lines in texts("specs"):
         for line in lines if "/declared/" not in file and not file.endswith("Examples.antt") else ():
             if (name := SPEC.match(line)) and not line.startswith(("use ", "pub use ", "--")):
-                found[name[1]].add(file)
-    return found
+                names[name[1]].add(file)
+    return names
 
 
 def participles() -> list[str]:
     """Spec names of one word that end in -ed, or are one of IRREGULAR."""
-    return sorted(it for it in spec_names() if it in IRREGULAR or re.fullmatch(r"[a-z]{2,}ed", it))
+    return sorted(name for name in spec_names() if name in IRREGULAR or re.fullmatch(r"[a-z]{2,}ed", name))
 
 
 def lemma_names() -> list[str]:
     """Names of lemmas with a dash, and those that say nothing. The toolchain gives the names of goals."""
     return [
-        f"{file}: {found[1]}"
+        f"{file}: {match[1]}"
         for file, lines in texts("proofs")
         for line in lines
-        if (found := LEMMA.match(line)) and ("-" in found[1] or found[1] in SAYING_NOTHING)
+        if (match := LEMMA.match(line)) and ("-" in match[1] or match[1] in SAYING_NOTHING)
     ]
 
 
 def literals(part: str) -> list[str]:
     """Numbers of seven and more digits without a `_`, which code has, so in clauses and definitions; examples aside."""
     files = (lines for file, lines in texts(part) if not file.endswith(("Examples.antt", "WorkedRows.antt")))
-    return [it for lines in files for line in lines if not is_comment(line) for it in LITERAL.findall(line)]
+    return [element for lines in files for line in lines if not is_comment(line) for element in LITERAL.findall(line)]
 
 
 def is_comment(line: str) -> bool:
@@ -112,7 +112,7 @@ def is_comment(line: str) -> bool:
 def functions() -> list[Function]:
     """The functions in Rattle. One ends with the first `}` below its `fn`; its body begins with the last `{` at the end
     of a line that has that margin."""
-    found = []
+    functions = []
     for file, lines in texts("src"):
         for at, line in enumerate(lines):
             if not (begins := FUNCTION.match(line)):
@@ -121,8 +121,8 @@ def functions() -> list[Function]:
             last = next((n for n in range(at, len(lines)) if lines[n].startswith(f"{margin}}}")), at)
             opens = [n for n in range(at, last) if lines[n].endswith("{") and is_at(lines[n], margin, n == at)]
             body = lines[opens[-1] + 1 : last] if opens else []
-            found.append(Function(file, at + 1, begins[3], begins[2] == "pub ", body))
-    return found
+            functions.append(Function(file, at + 1, begins[3], begins[2] == "pub ", body))
+    return functions
 
 
 def is_at(line: str, margin: str, is_first: bool) -> bool:
@@ -132,7 +132,7 @@ def is_at(line: str, margin: str, is_first: bool) -> bool:
 
 def long_functions() -> list[str]:
     """Functions of more than LONGEST lines, in Rattle and in Python."""
-    rattle = [f"{it.file}:{it.line}" for it in functions() if len(it.body) > LONGEST]
+    rattle = [f"{function.file}:{function.line}" for function in functions() if len(function.body) > LONGEST]
     return rattle + [
         f"{file}:{node.lineno}"
         for file in written_in("python")
@@ -151,7 +151,7 @@ def never_called() -> list[str]:
     """Public functions that `main` of `cpi` doesn't reach: a function reaches each that has a name which its body has.
     As a name may be that of several functions, some that are never called aren't found."""
     found = functions()
-    named = {it.name for it in found}
+    named = {function.name for function in found}
     reaches: dict[str, set[str]] = defaultdict(set)
     for function in found:
         code = " ".join(it for it in function.body if not is_comment(it))
@@ -161,26 +161,30 @@ def never_called() -> list[str]:
         new = reaches[left.pop()] - seen
         seen |= new
         left.extend(new)
-    return [f"{it.file}:{it.line} {it.name}" for it in found if it.is_public and it.name not in seen]
+    return [
+        f"{function.file}:{function.line} {function.name}"
+        for function in found
+        if function.is_public and function.name not in seen
+    ]
 
 
 def trusted_lines() -> list[str]:
     """The lines of code of the files that people read: not those that are blank, only a comment, or bring in names."""
-    found = []
+    lines = []
     for file in TRUSTED:
         within = False
         for number, line in enumerate((TOP / "crates" / file).read_text(encoding="utf-8").split("\n"), 1):
             code = line.partition("//")[0].strip()
             within = within or USE.match(code) is not None
             if code and not within:
-                found.append(f"crates/{file}:{number} {code}")
+                lines.append(f"crates/{file}:{number} {code}")
             within = within and not code.endswith(";")
-    return found
+    return lines
 
 
 def by_crate(places: list[str]) -> Counter[str]:
     """How many of these places each crate has."""
-    return Counter(it.split("/")[1] for it in places)
+    return Counter(place.split("/")[1] for place in places)
 
 
 # ---- the companions
@@ -193,10 +197,10 @@ def modules() -> list[str]:
 
 def module_names_twice() -> list[str]:
     """The names of modules that two folders of the companions have, with their files."""
-    found: dict[str, list[str]] = defaultdict(list)
+    lists: dict[str, list[str]] = defaultdict(list)
     for file in modules():
-        found[file.rpartition("/")[2]].append(file)
-    return [f"{name}: {', '.join(files)}" for name, files in sorted(found.items()) if files[1:] and name[0] != "_"]
+        lists[file.rpartition("/")[2]].append(file)
+    return [f"{name}: {', '.join(files)}" for name, files in sorted(lists.items()) if files[1:] and name[0] != "_"]
 
 
 def wide_folders() -> list[str]:

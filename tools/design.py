@@ -36,10 +36,10 @@ PART = re.compile(r"/\* ---- the design of all pages.*?/\* ---- the end of the d
 
 def find_part(style: str) -> str:
     """The part of a style that all families share. Raises ValueError if it isn't there once."""
-    found = PART.findall(style)
-    if len(found) != 1:
-        raise ValueError(f"the part with the design is there {len(found)} times, and has to be there once")
-    return str(found[0])
+    matches = PART.findall(style)
+    if len(matches) != 1:
+        raise ValueError(f"the part with the design is there {len(matches)} times, and has to be there once")
+    return str(matches[0])
 
 
 def put_part(style: str, part: str) -> str:

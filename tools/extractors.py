@@ -113,12 +113,12 @@ def refused() -> Mapping[int, str]:
 def to_desk() -> Mapping[str, str]:
     """What the desk's page says of refusals, each sentence with what it is of. Of a number that only the guide of
     collectors has, the words are those of the collectors."""
-    found: dict[str, str] = {}
+    desks: dict[str, str] = {}
     rows = [(f"refusal {', '.join(map(str, row.numbers))}", row.words) for row in REFUSALS]
     for told_of, words in [*rows, *((f"fault {fault} of a plan", words) for fault, words in PLAN_FAULTS.items())]:
-        found.setdefault(sentence(words.because), f"{told_of} on the desk's page: why")
-        found.setdefault(sentence(words.do), f"{told_of} on the desk's page: what to do")
-    return found
+        desks.setdefault(sentence(words.because), f"{told_of} on the desk's page: why")
+        desks.setdefault(sentence(words.do), f"{told_of} on the desk's page: what to do")
+    return desks
 
 
 def of_refusals(*_: object, options: object) -> Iterator[Found]:
@@ -148,7 +148,7 @@ def of_wording(file: IO[bytes], *_: object, options: object) -> Iterator[Found]:
     for node in ast.walk(ast.parse(file.read())):
         if isinstance(node, (ast.Assign, ast.AnnAssign)):
             in_table = node.value.values if isinstance(node.value, ast.Dict) else ()
-            texts = [it for it in ast.walk(node) if isinstance(it, ast.Constant) and isinstance(it.value, str)]
+            texts = [node for node in ast.walk(node) if isinstance(node, ast.Constant) and isinstance(node.value, str)]
             for each in texts:
                 if each in in_table or re.search("[a-z] [a-z]|{", each.value):
                     yield each.lineno, None, each.value, []

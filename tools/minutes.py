@@ -92,7 +92,7 @@ class Seen:
     def lines(self) -> list[str]:
         """The lines of the report: sums first, then each kind."""
         kinds = sorted({kind for _, kind in self.seconds})
-        sums = [(f"all, {of}", [it for it in kinds if it[1] == of]) for of in ("proof", "tests", "edits")]
+        sums = [(f"all, {of}", [kind for kind in kinds if kind[1] == of]) for of in ("proof", "tests", "edits")]
         sums += [(", ".join(kind), [kind]) for kind in kinds]
         return [f"  {name}: {self.minutes(of):.1f}\n" for name, of in sums]
 

@@ -57,7 +57,7 @@ class Run(NamedTuple):
 def with_numbers(statement: str) -> str:
     """A statement whose bound variables have numbers, by the order in which they are bound, and no white space."""
     text = " ".join(statement.split())
-    bound = [name for found in BINDERS.finditer(text) for name in (found[1] or found[2]).split()]
+    bound = [name for match in BINDERS.finditer(text) for name in (match[1] or match[2]).split()]
     numbers = {name: f"${n}" for n, name in enumerate(dict.fromkeys(bound))}
     words = re.split(rf"({NAME})", text)
     return "".join(numbers.get(word, word) for word in words).replace(" ", "")
@@ -80,24 +80,24 @@ def lemmas(file: str, text: str) -> Iterator[Lemma]:
             modules.pop()
         if line.lstrip().startswith("module "):
             modules.append((at, line.strip()))
-        found = DECLARED.fullmatch(line)
-        if found and at == 2 * len(modules):
-            rest = itertools.takewhile(lambda it: it.strip() and indent_of(it) > at, lines[n + 1 :])
-            stated = " ".join([*(text for _, text in modules), found[4], *rest])
-            yield Lemma(found[3], file, n + 1, with_numbers(stated))
+        match = DECLARED.fullmatch(line)
+        if match and at == 2 * len(modules):
+            rest = itertools.takewhile(lambda line: line.strip() and indent_of(line) > at, lines[n + 1 :])
+            stated = " ".join([*(text for _, text in modules), match[4], *rest])
+            yield Lemma(match[3], file, n + 1, with_numbers(stated))
 
 
-def in_several_files(found: Iterable[Lemma]) -> list[list[Lemma]]:
+def in_several_files(lemmas: Iterable[Lemma]) -> list[list[Lemma]]:
     """Lemmas that are stated in more than one file, those of one statement together, in the order of their files."""
     by_statement: dict[str, dict[str, Lemma]] = defaultdict(dict)
-    for lemma in found:
+    for lemma in lemmas:
         by_statement[lemma.statement].setdefault(lemma.file, lemma)
-    return sorted(sorted(it.values()) for it in by_statement.values() if len(it) > 1)
+    return sorted(sorted(lemmas.values()) for lemmas in by_statement.values() if len(lemmas) > 1)
 
 
 def lines_of(path: Path) -> list[Line]:
     """The lines of a file that count."""
-    comment, found, is_in_import = COMMENTS[path.suffix], [], False
+    comment, lines, is_in_import = COMMENTS[path.suffix], [], False
     for number, line in enumerate(path.read_text(encoding="utf-8").splitlines(), 1):
         text = line.strip()
         begins = bool(IMPORTS.match(text))
@@ -107,8 +107,8 @@ def lines_of(path: Path) -> list[Line]:
         elif ")" in text:
             is_in_import = False
         if not is_import and not text.startswith(comment) and re.search(r"\w", text):
-            found.append(Line(number, text))
-    return found
+            lines.append(Line(number, text))
+    return lines
 
 
 Place = tuple[str, int]
@@ -117,16 +117,16 @@ Place = tuple[str, int]
 
 def starts(files: dict[str, list[Line]]) -> dict[tuple[str, ...], list[Place]]:
     """Where each sequence of LEAST lines begins."""
-    found: dict[tuple[str, ...], list[Place]] = defaultdict(list)
+    lists: dict[tuple[str, ...], list[Place]] = defaultdict(list)
     for file, lines in files.items():
         for at in range(len(lines) - LEAST + 1):
-            found[tuple(line.text for line in lines[at : at + LEAST])].append((file, at))
-    return found
+            lists[tuple(line.text for line in lines[at : at + LEAST])].append((file, at))
+    return lists
 
 
 def runs(files: dict[str, list[Line]]) -> list[Run]:
     """The equal runs, each as long as it can be, the longest first."""
-    found: list[Run] = []
+    runs: list[Run] = []
     seen: set[tuple[Place, Place]] = set()
     for places in starts(files).values():
         for one, other in itertools.combinations(places[: MOST_PLACES + 1], 2) if len(places) <= MOST_PLACES else ():
@@ -134,8 +134,8 @@ def runs(files: dict[str, list[Line]]) -> list[Run]:
                 continue
             count = length(files, one, other)
             seen.update(((one[0], one[1] + n), (other[0], other[1] + n)) for n in range(count))
-            found.append(run_of(files, one, other, count))
-    return sorted(found, key=lambda it: (-it.size, it[1:]))
+            runs.append(run_of(files, one, other, count))
+    return sorted(runs, key=lambda run: (-run.size, run[1:]))
 
 
 def length(files: dict[str, list[Line]], one: Place, other: Place) -> int:

@@ -134,9 +134,9 @@ def of_crate(folder: Path) -> Iterator[str]:
     for path in sorted([*folder.glob("src/**/*.rt"), *folder.glob("specs/**/*.antt")]):
         paragraph = list[str]()
         for line in [*path.read_text(encoding="utf-8").splitlines(), ""]:
-            found = re.match(r"\s*(?://[/!]?|--+)\s?(.*)", line)
-            if found and found[1].strip():
-                paragraph.append(found[1])
+            match = re.match(r"\s*(?://[/!]?|--+)\s?(.*)", line)
+            if match and match[1].strip():
+                paragraph.append(match[1])
             elif paragraph:
                 yield " ".join(paragraph)
                 paragraph = []

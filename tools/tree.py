@@ -40,13 +40,13 @@ FIRST_LINE = re.compile(rb"#!.*\b(?:(?P<python>python3)|(?P<shell>bash|sh))\s*\n
 
 def files(top: Path = TOP) -> Iterator[str]:
     """Every file that people write, by its path below `top`, in their order."""
-    yield from sorted(it.name for it in top.iterdir() if it.is_file() and not it.name.startswith("."))
+    yield from sorted(path.name for path in top.iterdir() if path.is_file() and not path.name.startswith("."))
     for folder in FOLDERS:
         for at, folders, names in os.walk(top / folder):
             within = os.path.relpath(at, top)
-            folders[:] = sorted(it for it in folders if not LEFT.fullmatch(it))
-            folders[:] = [it for it in folders if f"{within}/{it}" not in (*DATA, LEFT_BY_PIP)]
-            yield from (f"{within}/{it}" for it in sorted(names) if not LEFT.fullmatch(it))
+            folders[:] = sorted(folder for folder in folders if not LEFT.fullmatch(folder))
+            folders[:] = [folder for folder in folders if f"{within}/{folder}" not in (*DATA, LEFT_BY_PIP)]
+            yield from (f"{within}/{name}" for name in sorted(names) if not LEFT.fullmatch(name))
 
 
 def language_of(path: Path) -> str:
@@ -56,10 +56,10 @@ def language_of(path: Path) -> str:
     if path.suffix:
         return ""
     with path.open("rb") as file:
-        found = FIRST_LINE.match(file.readline(100))
-    return (found.lastgroup or "") if found else ""
+        match = FIRST_LINE.match(file.readline(100))
+    return (match.lastgroup or "") if match else ""
 
 
 def written_in(language: str, top: Path = TOP) -> list[str]:
     """The files of a language, by their paths below `top`."""
-    return [it for it in files(top) if language_of(top / it) == language]
+    return [file for file in files(top) if language_of(top / file) == language]

@@ -63,13 +63,13 @@ def versions(top: Path) -> list[Version]:
     """All versions of CHANGELOG.md, the latest first. A ValueError says why there are none."""
     text = (top / PAGE).read_text(encoding="utf-8")
     head = r"^## (?:(?P<number>\d[\d.]*), (?P<day>\d{4}-\d\d-\d\d)|Unreleased \((?P<next>\d[\d.]*)\))\n"
-    found = []
+    versions = []
     for part in re.finditer(head + r"(?P<said>.*?)(?=^## |\Z)", text, re.S | re.M):
         said, _, of = part["said"].partition("\nSources: ")
-        found.append(Version(part["number"] or part["next"], part["day"] or "", said.strip(), of.strip()))
-    if not found or len(found) != len(re.findall("^## ", text, re.M)):
+        versions.append(Version(part["number"] or part["next"], part["day"] or "", said.strip(), of.strip()))
+    if not versions or len(versions) != len(re.findall("^## ", text, re.M)):
         raise ValueError(f"{PAGE} has a heading other than '## 1.0, 2026-11-25' and '## Unreleased (1.1)', or none")
-    return found
+    return versions
 
 
 # ---- the sum of the sources

@@ -59,8 +59,8 @@ COMMAND = re.compile(r"  ([a-z][a-z-]*)  +(.*)")
 
 def section(text: str, head: str) -> list[str]:
     """The lines of a section of a help."""
-    found = re.search(rf"^{head}:\n((?: .*\n)+)", text, re.M)
-    return found[1].splitlines() if found else []
+    match = re.search(rf"^{head}:\n((?: .*\n)+)", text, re.M)
+    return match[1].splitlines() if match else []
 
 
 def value_of_help(name: str, said: str) -> Value:
@@ -75,10 +75,10 @@ def options_of_help(text: str) -> Iterator[Option]:
     """The options of a help; a line that has none goes on with what is said of the one before."""
     told: list[tuple[tuple[str, ...], Optional[str], str]] = []
     for line in section(text, "Options"):
-        found = OPTION.fullmatch(line)
-        if found:
-            names = tuple(name for name in found.group(1, 2) if name)
-            told.append((names, found[3], found[4] or ""))
+        match = OPTION.fullmatch(line)
+        if match:
+            names = tuple(name for name in match.group(1, 2) if name)
+            told.append((names, match[3], match[4] or ""))
         elif told:
             names, value, said = told.pop()
             told.append((names, value, f"{said} {line.strip()}".strip()))
@@ -97,7 +97,7 @@ def help_of(program: Path, *words: str) -> str:
 def of_help(name: str, program: Path) -> Command:
     """The words of a program by its help, and by that of each of its commands."""
     text = help_of(program)
-    named = [found.groups() for line in section(text, "Commands") if (found := COMMAND.fullmatch(line))]
+    named = [match.groups() for line in section(text, "Commands") if (match := COMMAND.fullmatch(line))]
     below = []
     for one, said in named:
         if one == "help":

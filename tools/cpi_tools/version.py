@@ -55,11 +55,11 @@ def run_by(program: Path, top: Path, shipped: dict[str, str]) -> Optional[Path]:
     is_script = (top / "tools/sources").is_file() and program.resolve() == (top / "cpi").resolve()
     if not is_script:
         return program
-    found = sources_of(top)
-    built, of_dist = top / "out" / found / "cpi", top / "dist/cpi"
-    if found and built.is_file():
+    sources = sources_of(top)
+    built, of_dist = top / "out" / sources / "cpi", top / "dist/cpi"
+    if sources and built.is_file():
         return built
-    return of_dist if found and shipped.get("sources") == found and of_dist.is_file() else None
+    return of_dist if sources and shipped.get("sources") == sources and of_dist.is_file() else None
 
 
 def told_of_program(top: Path, shipped: dict[str, str]) -> str:

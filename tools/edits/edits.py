@@ -49,20 +49,27 @@ class Edit(NamedTuple):
 
     def names(self) -> set[str]:
         """The names of its functions."""
-        return {it.name for it in self.functions}
+        return {function.name for function in self.functions}
 
     def files(self) -> set[str]:
         """The files that it changes."""
-        return {it.file for it in self.pairs}
+        return {pair.file for pair in self.pairs}
 
     def find_function_at(self, file: str, line: int) -> str:
         """The name of the function that it changes around this line, or ``. (An edit never moves a line.)"""
-        return next((it.name for it in self.functions if it.file == file and it.first <= line <= it.last), "")
+        return next(
+            (
+                function.name
+                for function in self.functions
+                if function.file == file and function.first <= line <= function.last
+            ),
+            "",
+        )
 
     def find_function_named(self, name: str) -> str:
         """The function that it changes and that has this name, or in which the closure of this name stands, or ``."""
         plain = "::".join(part for part in name.split("::") if part != "fn")
-        return next((it for it in sorted(self.names()) if plain == it or plain.startswith(f"{it}::")), "")
+        return next((name for name in sorted(self.names()) if plain == name or plain.startswith(f"{name}::")), "")
 
     def is_of_definitions(self) -> bool:
         """Whether it changes definitions only, so that a lemma of any proof may be the first that fails."""
@@ -132,7 +139,7 @@ def read_edit(name: str, text: str, crate: Crate) -> Edit:
         return Edit(name, fault=fault)
     if texts == crate.texts:
         return Edit(name, fault="it changes nothing")
-    functions = {it.name: it for pair in pairs for it in list_changed(crate, pair)}
+    functions = {item.name: item for pair in pairs for item in list_changed(crate, pair)}
     is_wide = any(not is_local(crate, pair) for pair in pairs)
     return add_laws(Edit(name, tuple(pairs), tuple(functions.values()), is_wide), text, crate)
 
@@ -140,7 +147,7 @@ def read_edit(name: str, text: str, crate: Crate) -> Edit:
 def add_laws(edit: Edit, text: str, crate: Crate) -> Edit:
     """An edit with the functions that its lines `at: FUNCTION` name, or with a fault."""
     names = re.findall(r"^at: (\S+)$", text, re.M)
-    functions = {it.name: it for it in crate.items if it.kind == "fn"}
+    functions = {item.name: item for item in crate.items if item.kind == "fn"}
     if names and not edit.is_of_definitions():
         return edit._replace(fault="an 'at:' line is for an edit of definitions, in specs/")
     if unknown := [name for name in names if name not in functions]:
@@ -183,8 +190,8 @@ def apply(pairs: tuple[Pair, ...] | list[Pair], texts: dict[str, str]) -> str:
 
 def find_line(texts: Mapping[str, str], pair: Pair) -> Optional[int]:
     """The line of a pair's old text, counted from 1; None if an earlier pair makes that text."""
-    before, found, _ = texts[pair.file].partition(pair.old)
-    return before.count("\n") + 1 if found else None
+    before, line, _ = texts[pair.file].partition(pair.old)
+    return before.count("\n") + 1 if line else None
 
 
 def find_items_around(crate: Crate, pair: Pair) -> list[Item]:
@@ -204,13 +211,13 @@ def is_local(crate: Crate, pair: Pair) -> bool:
 def list_changed(crate: Crate, pair: Pair) -> list[Item]:
     """The functions that a pair changes: the one around it, and its callers too if its contract changes, since it may
     still be proved, and they aren't. For a constant or a macro: all functions that name it."""
-    found = find_items_around(crate, pair)
+    items = find_items_around(crate, pair)
     line = find_line(crate.texts, pair) or 0
-    found += [user for it in found if line < it.first + len(it.header()) for user in crate.find_users(it)]
-    for item in found:
+    items += [user for item in items if line < item.first + len(item.header()) for user in crate.find_users(item)]
+    for item in items:
         if item.kind != "fn":
             more = crate.find_users(item)
-            in_contract = [it for it in more if item.word() in "\n".join(it.header())]
-            more += [user for it in in_contract for user in crate.find_users(it)]
-            found += [it for it in more if it not in found]
-    return [it for it in found if it.kind == "fn"]
+            in_contract = [user for user in more if item.word() in "\n".join(user.header())]
+            more += [user for item in in_contract for user in crate.find_users(item)]
+            items += [user for user in more if user not in items]
+    return [item for item in items if item.kind == "fn"]

@@ -35,10 +35,10 @@ def has_clash(one: Edit, other: Edit, calls: Calls) -> bool:
 
 def find_callees(names: set[str], calls: Calls) -> set[str]:
     """The functions that these call, themselves or by others."""
-    found: set[str] = set()
+    callees: set[str] = set()
     left = list(names)
     while left:
-        more = calls.get(left.pop(), set()) - found
-        found |= more
+        more = calls.get(left.pop(), set()) - callees
+        callees |= more
         left += more
-    return found
+    return callees

@@ -32,7 +32,7 @@ class Libraries(NamedTuple):
 
     def list_below(self, crate: str) -> list[str]:
         """The crates below one."""
-        return below({name: list(it) for name, it in self.uses.items()}, crate)
+        return below({name: list(use) for name, use in self.uses.items()}, crate)
 
     def path(self, name: str) -> Path:
         """The library of a crate, or one of the toolchain."""
@@ -78,7 +78,7 @@ class Prover:
 
     def compile(self, crate: Crate, edit: Edit) -> Report:
         """Checks the functions that an edit changes, and the whole crate as far as the compiler reads it."""
-        return self.check_with_stubs(crate, [edit], edit.names(), {it.name for it in crate.items})
+        return self.check_with_stubs(crate, [edit], edit.names(), {item.name for item in crate.items})
 
     def check_functions(self, crate: Crate, edits: Sequence[Edit], names: Collection[str]) -> Report:
         """Checks a crate with these edits, but only the functions of these names; all others are stubs."""
@@ -97,7 +97,12 @@ class Prover:
             unknown, faulty = report.find_unknown(), find_faulty(stubs.values(), report.list_places())
             if unknown in wanted:
                 # (of a method that a macro writes the prover knows another name: the module stands for it)
-                wanted |= {name_module(it.file) for edit in edits for it in edit.functions if it.name == unknown}
+                wanted |= {
+                    name_module(function.file)
+                    for edit in edits
+                    for function in edit.functions
+                    if function.name == unknown
+                }
                 wanted.discard(unknown)
             elif faulty:
                 whole = whole | faulty

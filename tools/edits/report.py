@@ -52,7 +52,7 @@ class Report(NamedTuple):
 
     def find_first_note(self) -> str:
         """The first line that says something of a place."""
-        return next((it[:200] for it in self.lines if PLACED.match(it)), self.find_last())
+        return next((line[:200] for line in self.lines if PLACED.match(line)), self.find_last())
 
     def has_verdict(self) -> bool:
         """Whether the prover came to its end and doesn't prove all that it was asked for."""
@@ -64,16 +64,16 @@ class Report(NamedTuple):
 
     def list_functions(self) -> dict[str, str]:
         """What is said of each function, by its name without the crate."""
-        return {it[1]: it[2] for it in map(FUNCTION.match, self.lines) if it}
+        return {match[1]: match[2] for match in map(FUNCTION.match, self.lines) if match}
 
     def find_unknown(self) -> str:
         """The name that the prover doesn't know, or ``."""
-        found = UNKNOWN.search("\n".join(self.lines)) if self.status == NOT_CALLED_WELL else None
-        return found[1] if found else ""
+        match = UNKNOWN.search("\n".join(self.lines)) if self.status == NOT_CALLED_WELL else None
+        return match[1] if match else ""
 
     def list_places(self) -> set[tuple[str, int]]:
         """The file and the line of each error; line 0 of a file of proofs that an error only names."""
-        placed = {(it["file"], int(it["line"])) for it in map(ERROR.match, self.lines) if it}
+        placed = {(match["file"], int(match["line"])) for match in map(ERROR.match, self.lines) if match}
         return placed | {(path, 0) for line in self.lines if "error" in line for path in PROOF_FILE.findall(line)}
 
     def list_calls(self, crate: str) -> dict[str, set[str]]:
@@ -109,34 +109,38 @@ def find_refusal(edit: Edit, report: Report) -> str:
 
 def find_lemma(report: Report) -> str:
     """The first lemma that a run refuses for what it says itself: `FILE:LINE, LEMMA`; or ``."""
-    lemmas = [it for it in map(LEMMA.match, report.lines) if it and not (FOLLOWS.search(it[3]) or GONE.search(it[3]))]
+    lemmas = [
+        match
+        for match in map(LEMMA.match, report.lines)
+        if match and not (FOLLOWS.search(match[3]) or GONE.search(match[3]))
+    ]
     return f"{lemmas[0][1]}, {lemmas[0][2]}" if lemmas else ""
 
 
 def is_proved(edit: Edit, report: Report) -> bool:
     """Whether a run proves each function that an edit changes."""
     functions = report.list_functions()
-    return bool(edit.names()) and all(functions.get(it, "").startswith(PROVED) for it in edit.names())
+    return bool(edit.names()) and all(functions.get(name, "").startswith(PROVED) for name in edit.names())
 
 
 def find_unread(edit: Edit, report: Report) -> str:
     """The line by which the compiler or the prover says that it can't read a file of an edit, or ``."""
-    return next((it.string[:200] for it in list_unread(report) if it["file"] in edit.files()), "")
+    return next((match.string[:200] for match in list_unread(report) if match["file"] in edit.files()), "")
 
 
 def find_unreadable(group: Sequence[Edit], report: Report) -> list[Edit]:
     """Those of a group's edits that the compiler or the prover can't read, as far as the lines of its errors show it."""
     errors = list_unread(report)
-    in_function = [it for it in group if any(it.find_function_at(at["file"], int(at["line"])) for at in errors)]
-    return in_function or [it for it in group if find_unread(it, report)]
+    in_function = [edit for edit in group if any(edit.find_function_at(at["file"], int(at["line"])) for at in errors)]
+    return in_function or [edit for edit in group if find_unread(edit, report)]
 
 
 def list_unread(report: Report) -> list[re.Match[str]]:
     """The errors by which the compiler or the prover says that it can't read something. (A run that only refuses what it
     has read has errors of other words.)"""
-    errors = [it for it in map(ERROR.match, report.lines) if it] if report.status == REFUSED else []
-    plain = [re.sub(r"`[^`]*`", "", it["what"]) for it in errors]
-    return [it for it, words in zip(errors, plain) if it["code"] or not it["name"] or UNREAD.search(words)]
+    errors = [match for match in map(ERROR.match, report.lines) if match] if report.status == REFUSED else []
+    plain = [re.sub(r"`[^`]*`", "", error["what"]) for error in errors]
+    return [error for error, words in zip(errors, plain) if error["code"] or not error["name"] or UNREAD.search(words)]
 
 
 def find_uncompiled(edit: Edit, report: Report) -> str:
@@ -161,18 +165,18 @@ def find_compiled(edit: Edit, report: Report) -> str:
 
 def list_coded(report: Report) -> list[re.Match[str]]:
     """The compiler's errors: each of these has a code."""
-    return [it for it in list_unread(report) if it["code"]]
+    return [match for match in list_unread(report) if match["code"]]
 
 
 def find_others(edit: Edit, errors: Sequence[re.Match[str]]) -> list[re.Match[str]]:
     """Those of the compiler's errors that an edit doesn't ask for: of another code or text, or at no function that it
     changes. One that is wrong in another way too, such as by a misspelt name, has some."""
     return [
-        it
-        for it in errors
-        if it["code"] != f"[{edit.code}]"
-        or edit.says not in read_text(it)
-        or not edit.find_function_at(it["file"], int(it["line"]))
+        error
+        for error in errors
+        if error["code"] != f"[{edit.code}]"
+        or edit.says not in read_text(error)
+        or not edit.find_function_at(error["file"], int(error["line"]))
     ]
 
 

@@ -34,8 +34,8 @@ class Trial:
 
     def __init__(self, crate: Crate, edits: Sequence[Edit], prover: Prover, cache: Cache) -> None:
         self.crate, self.prover, self.cache = crate, prover, cache
-        self.verdicts: Verdicts = {it.name: Verdict(BAD_EDIT, it.fault) for it in edits if it.fault}
-        self.left = [it for it in edits if not it.fault]
+        self.verdicts: Verdicts = {edit.name: Verdict(BAD_EDIT, edit.fault) for edit in edits if edit.fault}
+        self.left = [edit for edit in edits if not edit.fault]
         self.single = {it.name for it in self.left if it.is_alone()}
         self.calls: dict[str, set[str]] = {}
 
@@ -77,7 +77,7 @@ class Trial:
             self.calls.setdefault(name, set()).update(called)
         if not any(decided):
             # (if the compiler stops at some of them, the others are tried together once more)
-            self.single.update(it.name for it in find_unreadable(group, report) or group)
+            self.single.update(edit.name for edit in find_unreadable(group, report) or group)
 
     def try_to_compile(self, edit: Edit) -> Verdict:
         """What the compiler says of an edit that it must refuse. If it takes the edit, the prover tries what changed."""

@@ -59,7 +59,7 @@ class Crate(NamedTuple):
 
     def find_items_at(self, file: str, line: int) -> list[Item]:
         """The items that contain a line of a file."""
-        return [it for it in self.items if it.file == file and it.first <= line <= it.last]
+        return [item for item in self.items if item.file == file and item.first <= line <= item.last]
 
     def find_users(self, item: Item) -> list[Item]:
         """The items that name this one: of a private one only those of its file, unless it is a macro."""

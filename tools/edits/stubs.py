@@ -30,7 +30,7 @@ pub {word}_spec : {{M : Type 1}} → stated.statement M
 def stub_others(crate: Crate, changed: Collection[str], texts: dict[str, str]) -> dict[str, Item]:
     """Makes each function a stub, but for those that are `changed`. Each line of a source keeps its number. Returns the
     stubs by their names."""
-    stubs = {it.name: it for it in crate.items if it.name not in changed and can_be_stub(crate, it)}
+    stubs = {item.name: item for item in crate.items if item.name not in changed and can_be_stub(crate, item)}
     for item in stubs.values():
         stub(crate, item, texts)
     return stubs
@@ -89,8 +89,8 @@ def can_be_stub(crate: Crate, item: Item) -> bool:
 def find_faulty(stubs: Iterable[Item], places: Collection[tuple[str, int]]) -> set[str]:
     """The names of stubs at which an error is, by the file and the line of each: these can't be stubs."""
     return {
-        it.name
-        for it in stubs
+        item.name
+        for item in stubs
         for file, line in places
-        if file == it.file and it.first <= line <= it.last or file.startswith(find_folder(it) + "/")
+        if file == item.file and item.first <= line <= item.last or file.startswith(find_folder(item) + "/")
     }

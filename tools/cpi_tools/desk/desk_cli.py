@@ -117,8 +117,8 @@ def run_what_if(chosen: argparse.Namespace) -> int:
     with at_desk(chosen) as desk:
         desk.progress.now("freezing the month on two copies")
         beside = what_if.what_if(desk.cpi, desk.copy, chosen.month, moment_of(chosen), tried)
-    found = what_if.differences(beside)
-    print(text_of(found, len(found.rows)))
+    differences = what_if.differences(beside)
+    print(text_of(differences, len(differences.rows)))
     for name, it in (("as it stands", beside.as_is), ("what if", beside.tried)):
         print(f"carry list {name}: {' '.join(it.carry) or 'empty'}")
     if beside.until:
@@ -302,6 +302,6 @@ TEMPLATES = Path(__file__).resolve().parent / "templates"
 
 def write_month(report: Report, to: Path, teller: Teller = ENGLISH) -> None:
     """Writes the page of a month in the language of a teller, whole or not at all."""
-    track = charts.track([it.points for it in report.divisions])
+    track = charts.track([division.points for division in report.divisions])
     environment = section_pages.environment([TEMPLATES], teller)
     page_templates.write_page(environment, "month.html", to, report=report, track=track)

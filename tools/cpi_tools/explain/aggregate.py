@@ -66,12 +66,12 @@ def who_sent(sources: Sources, series: Series, month: int, quote: Frozen) -> Mes
 
 def about(sources: Sources, series: Series) -> Message:
     """The item and the outlet of a series, in words."""
-    it = sources.holder(series, sources.month)
-    item = sources.items[it.item]
+    holder = sources.holder(series, sources.month)
+    item = sources.items[holder.item]
     places = {
         "item": of_others(item.text),
         "unit": of_others(item.unit),
-        "outlet": of_others(sources.outlets[it.outlet]),
+        "outlet": of_others(sources.outlets[holder.outlet]),
     }
     return message("{code} {item}, {unit}; {outlet}", code=Code(item.code), **places)
 
@@ -173,10 +173,12 @@ def imputed_lines(sources: Sources, series: Series, up: int, down: int) -> Itera
 
 def movement(sources: Sources, code: str, sample: Sequence[Series]) -> tuple[int, int, list[Line]]:
     """The movement of an aggregate as two sums, and the lines that derive it."""
-    matched = [it for it in sample if sources.is_matched(it)]
+    matched = [series for series in sample if sources.is_matched(series)]
     if not matched:
         return 1, 1, unmatched_lines(sources, code, sample)
-    now, then = [sources.own.carried_prices[it].ticks for it in matched], [sources.then(it)[0] for it in matched]
+    now, then = [sources.own.carried_prices[series].ticks for series in matched], [
+        sources.then(series)[0] for series in matched
+    ]
     up, down, count = sum(now), sum(then), len(matched)
     months = month_of(sources.month), month_of(month_before(sources.month))
     what = [
@@ -192,7 +194,7 @@ def movement(sources: Sources, code: str, sample: Sequence[Series]) -> tuple[int
 
 def unmatched_lines(sources: Sources, code: str, sample: Sequence[Series]) -> list[Line]:
     """The movement of an aggregate in which nothing is matched, if one is needed."""
-    if all(sources.is_comparable(it) for it in sample):
+    if all(sources.is_comparable(series) for series in sample):
         return []
     if code in sources.own.release.carry:
         says = message("nothing is matched, but the aggregate is on the freeze's carry list")
@@ -204,7 +206,9 @@ def unmatched_lines(sources: Sources, code: str, sample: Sequence[Series]) -> li
 
 def index_lines(sources: Sources, code: str, sample: Sequence[Series]) -> list[Line]:
     """The index of an aggregate, from its sums."""
-    now, bases = [sources.own.carried_prices[it].ticks for it in sample], [sources.base(it)[0] for it in sample]
+    now, bases = [sources.own.carried_prices[series].ticks for series in sample], [
+        sources.base(series)[0] for series in sample
+    ]
     up, down = sum(now), sum(bases)
     expression = f"round({HUNDRED} * {up} / {down})"
     row = sources.row("level_2", code)
@@ -231,9 +235,9 @@ def aggregate_parts(sources: Sources, code: str) -> list[Part]:
 
 def carried_parts(sources: Sources, code: str, sample: Sequence[Series]) -> list[Part]:
     """The parts that derive the carried prices of a sample."""
-    seen = [it for it in sample if sources.is_comparable(it)]
+    seen = [series for series in sample if sources.is_comparable(series)]
     up, down, moved = movement(sources, code, sample)
-    imputed = [line for it in sample if it not in seen for line in imputed_lines(sources, it, up, down)]
+    imputed = [line for series in sample if series not in seen for line in imputed_lines(sources, series, up, down)]
     return [
         Part(
             message("Movement"),
@@ -251,7 +255,7 @@ def carried_parts(sources: Sources, code: str, sample: Sequence[Series]) -> list
         Part(
             message("Observed prices"),
             message("Each counts as its price times its scale, in ticks."),
-            [observed_line(sources, it) for it in seen],
+            [observed_line(sources, series) for series in seen],
         ),
     ]
 
@@ -263,27 +267,31 @@ def found_parts(sources: Sources, sample: Sequence[Series]) -> list[Part]:
         Part(
             message("Quotes"),
             message("The quotes with which {month} was frozen, in minor units of money.", month=month),
-            [quote_line(sources, it) for it in sample],
+            [quote_line(sources, series) for series in sample],
         ),
         Part(
             message("The month before"),
             message("The price that each series counted as in that month, in ticks."),
-            [then_line(sources, it) for it in sample],
+            [then_line(sources, series) for series in sample],
         ),
         Part(
             message("Bases"),
             message("Bases are in ticks (10,000 per minor unit of money). The link month is {month}.", month=link),
-            [base_line(sources, it) for it in sample],
+            [base_line(sources, series) for series in sample],
         ),
     ]
 
 
 def sample_glance(sources: Sources, code: str) -> Section:
     """The series of the sample in one table; those with the greatest changes come first."""
-    found = [(sources.own.carried_prices[it].ticks, sources.then(it)[0], it) for it in sources.samples[code]]
+    samples = [
+        (sources.own.carried_prices[sample].ticks, sources.then(sample)[0], sample) for sample in sources.samples[code]
+    ]
     rows = [
         glance_row(sources, series, now, then)
-        for now, then, series in sorted(found, key=lambda it: (-abs(Fraction(it[0] - it[1], it[1])), it[2]))
+        for now, then, series in sorted(
+            samples, key=lambda sample: (-abs(Fraction(sample[0] - sample[1], sample[1])), sample[2])
+        )
     ]
     heads = columns(
         *("series", "priced by", "item", "outlet", "found", "#receipt", "#counted before", "#counts as", "#percent"),
@@ -337,9 +345,9 @@ class Life(NamedTuple):
 def series_in(office: StoredOffice, place: tuple[int, int]) -> tuple[Series, list[Assignment]]:
     """The series in a slot, and its assignments, from the first collector to the last. Raises NotExplained."""
     assignments = office.assignments()
-    for it in assignments:
-        if it[:2] == place:
-            return it.series, [each for each in assignments if each.series == it.series]
+    for assignment in assignments:
+        if assignment[:2] == place:
+            return assignment.series, [each for each in assignments if each.series == assignment.series]
     name = Code(slot_text(place))
     raise NotExplained(message("{slot} isn't a slot of the office: give COLLECTOR/SLOT", slot=name))
 
@@ -347,11 +355,11 @@ def series_in(office: StoredOffice, place: tuple[int, int]) -> tuple[Series, lis
 def life_of(office: StoredOffice, place: tuple[int, int], until: int) -> Life:
     """The life of the series in a slot, up to a month. Raises NotExplained if no such slot exists."""
     series, held = series_in(office, place)
-    latest = {it.month: it for it in office.releases() if it.month <= until}
+    latest = {release.month: release for release in office.releases() if release.month <= until}
     frozen, carried = office.frozen_of(series), office.carried_of(series)
     months = []
     for release in latest.values():
-        own = [it for it in held if it.first_month <= release.month]
+        own = [assignment for assignment in held if assignment.first_month <= release.month]
         if own:
             found = frozen.get(release[:2]), carried.get(release[:2])
             months.append(MonthOfSeries(release, own[-1], *found))
@@ -369,14 +377,14 @@ def life_of(office: StoredOffice, place: tuple[int, int], until: int) -> Life:
 def facts_of(office: StoredOffice, held: Sequence[Assignment], months: Sequence[MonthOfSeries]) -> Iterator[Message]:
     """Sentences about hand-overs, replacements, and the months in which the series was imputed."""
     copied = office.copied_prices()
-    for former, it in zip(held, held[1:]):
-        yield handed_over(former, it, copied.get(it[:2]))
-    new = [(month_of(it.release.month), it.found.mark) for it in months if it.found and is_new(it.found)]
+    for former, assignment in zip(held, held[1:]):
+        yield handed_over(former, assignment, copied.get(assignment[:2]))
+    new = [(month_of(month.release.month), month.found.mark) for month in months if month.found and is_new(month.found)]
     # t: the month of a replacement, and its mark: comparable or other
     replaced = [message("{month} ({mark})", month=month, mark=mark_words(mark)) for month, mark in new]
     if replaced:
         yield message("The product was replaced in {months}.", months=row_of(replaced))
-    imputed = [month_of(it.release.month) for it in months if it.carried and it.carried.imputed]
+    imputed = [month_of(month.release.month) for month in months if month.carried and month.carried.imputed]
     if imputed:
         yield message_of(
             "The price was imputed in {count} month: {months}.",
@@ -391,14 +399,14 @@ def is_new(quote: Frozen) -> bool:
     return quote.mark in ("comparable", "other")
 
 
-def handed_over(former: Assignment, it: Assignment, price: Optional[int]) -> Message:
+def handed_over(former: Assignment, assignment: Assignment, price: Optional[int]) -> Message:
     """A hand-over in words."""
     places: dict[str, object] = {
         "former": former.collector,
         "former_slot": former.slot,
-        "month": month_of(it.first_month),
+        "month": month_of(assignment.first_month),
     }
-    places.update(collector=it.collector, slot=it.slot)
+    places.update(collector=assignment.collector, slot=assignment.slot)
     if price is None:
         return message(
             "Handed over from collector {former}, slot {former_slot} to collector {collector}, slot {slot} from {month} on,"
@@ -417,14 +425,14 @@ def section_of(office: StoredOffice, months: Sequence[MonthOfSeries]) -> Section
     """A table of the months."""
     places = {plan.year: plan.places for plan in office.plans()}
     rows = []
-    for it in months:
-        quote = office.quotes_of_slot(it.holder[:2]).get(it.release.month)
-        stands = quote is not None and it.found is not None and quote[:2] == (it.found.mark, it.found.value)
+    for month in months:
+        quote = office.quotes_of_slot(month.holder[:2]).get(month.release.month)
+        stands = quote is not None and month.found is not None and quote[:2] == (month.found.mark, month.found.value)
         receipt = quote[2] if quote and stands else None
-        code = places.get(it.release.month // 100, {}).get(it.holder.item, "") if it.carried else ""
-        row: list[Cell] = [month_of(it.release.month), it.release.revision, Code(slot_text(it.holder[:2]))]
-        found = mark_text(it.found, it.holder.has_ended(it.release.month))
-        rows.append([*row, found, receipt, *carried_cells(it.carried), code])
+        code = places.get(month.release.month // 100, {}).get(month.holder.item, "") if month.carried else ""
+        row: list[Cell] = [month_of(month.release.month), month.release.revision, Code(slot_text(month.holder[:2]))]
+        text = mark_text(month.found, month.holder.has_ended(month.release.month))
+        rows.append([*row, text, receipt, *carried_cells(month.carried), code])
     heads = columns(
         *("month", "#revision", "priced by", "found", "#receipt", "#counts as, ticks", "#scale", "how", "=aggregate")
     )

@@ -79,16 +79,16 @@ def _explain_node(sources: Sources, code: str) -> Explanation:
 
 def figures_of(sources: Sources, code: str) -> list[Figure]:
     """The figures of a row as a table prints them."""
-    it = sources.own.levels[code]
-    year = "\u2013" if it.year_change is None else FigureText(f"{tenths(it.year_change)} %")
+    level = sources.own.levels[code]
+    year = "\u2013" if level.year_change is None else FigureText(f"{tenths(level.year_change)} %")
     return [
-        Figure(message("chained level"), FigureText(points(it.chained))),
-        Figure(message("index"), FigureText(points(it.within))),
-        Figure(message("monthly change"), FigureText(f"{tenths(it.month_change)} %")),
+        Figure(message("chained level"), FigureText(points(level.chained))),
+        Figure(message("index"), FigureText(points(level.within))),
+        Figure(message("monthly change"), FigureText(f"{tenths(level.month_change)} %")),
         Figure(message("annual change"), year),
-        Figure(message("weight in use"), whole(it.weight)),
+        Figure(message("weight in use"), whole(level.weight)),
         # t: whether there are imputed prices
-        Figure(message("imputed prices"), message("some") if it.imputed else message("none")),
+        Figure(message("imputed prices"), message("some") if level.imputed else message("none")),
     ]
 
 
@@ -102,7 +102,9 @@ def facts_of(sources: Sources, code: str) -> Iterator[Message]:
         revision=own.revision,
         **moments,
     )
-    others = [FigureText(it.revision) for it in sources.releases if it.month == own.month and it != own]
+    others = [
+        FigureText(release.revision) for release in sources.releases if release.month == own.month and release != own
+    ]
     if others:
         text = row(others)
         yield message(
@@ -112,7 +114,7 @@ def facts_of(sources: Sources, code: str) -> Iterator[Message]:
     if listed:
         yield message("On the carry list: {codes}.", codes=row(listed))
     for series in sources.samples.get(code, []):
-        held = [it for it in sources.assignments[series] if it.first_month <= sources.month]
+        held = [assignment for assignment in sources.assignments[series] if assignment.first_month <= sources.month]
         for former, it in zip(held, held[1:]):
             handed = handed_over(former, it, sources.copied_prices.get(it[:2]))
             # t: handed is a whole sentence: that the series was handed over
@@ -158,12 +160,12 @@ def told_life(life: Life, html: Optional[Path], teller: Teller) -> int:
 
 def told_one(sources: Sources, chosen: argparse.Namespace, teller: Teller) -> int:
     """Prints the lines of a node, and writes its page if asked to."""
-    found = explain_node(sources, chosen.code)
+    node = explain_node(sources, chosen.code)
     if chosen.html:
         with page_at(chosen.html) as explanation_pages:
             explanation_pages.write_one(sources, chosen.code, chosen.html, teller)
-    print(found.text)
-    return 1 if told_faults(found) else 0
+    print(node.text)
+    return 1 if told_faults(node) else 0
 
 
 def told_all(sources: Sources, chosen: argparse.Namespace, teller: Teller) -> int:
@@ -201,11 +203,11 @@ def counted_lines(explanations: Iterable[Explanation]) -> Count:
     return Count(nodes, expressions, untrue)
 
 
-def told_faults(it: Explanation) -> int:
+def told_faults(explanation: Explanation) -> int:
     """Reports each line that isn't true, with the row of the file; returns their number."""
-    for line in it.untrue:
-        print(f"cpi-tools explain: {it.code}: not true: {line.fault}", file=sys.stderr)
-    return len(it.untrue)
+    for line in explanation.untrue:
+        print(f"cpi-tools explain: {explanation.code}: not true: {line.fault}", file=sys.stderr)
+    return len(explanation.untrue)
 
 
 @contextlib.contextmanager

@@ -30,11 +30,11 @@ def value_of(text: str) -> Fraction:
     """The value of an expression; `round( )` rounds to the nearest whole number, halves up. Raises NoExpression."""
     tokens, at = [], 0
     while at < len(text):
-        found = TOKEN.match(text, at)
-        if not found:
+        match = TOKEN.match(text, at)
+        if not match:
             raise NoExpression(text[at : at + 20])
-        tokens.append(found[1])
-        at = found.end()
+        tokens.append(match[1])
+        at = match.end()
     value, end = _sum(tokens, 0)
     if end != len(tokens):
         raise NoExpression(" ".join(tokens[end : end + 5]))
@@ -184,7 +184,7 @@ class Explanation(NamedTuple):
     @property
     def text(self) -> str:
         """The explanation as it is printed: its sentences, then one line per step."""
-        figures = ", ".join(f"{it.name} {it.text}" for it in self.figures)
+        figures = ", ".join(f"{figure.name} {figure.text}" for figure in self.figures)
         head = f"{self.code} {self.title}: {self.month}, revision {self.revision}"
         blocks = ["\n".join([head, *self.sentences]), "\n".join([figures, *self.facts])]
         for part in self.parts:
@@ -277,13 +277,13 @@ def year_lines(sources: Sources, code: str) -> list[Line]:
 
 def revision_lines(sources: Sources, code: str) -> list[Line]:
     """The lines with the chained level in the other revisions of the month."""
-    own, found = sources.own.release, list[Line]()
+    own, lines = sources.own.release, list[Line]()
     for release in sources.releases:
         rows = sources.office.levels(release) if release.month == own.month and release != own else {}
         if code in rows:
             name = message("level in revision {revision}", revision=release.revision)
-            found.append(Line(name, "", rows[code].chained, message("as it was frozen")))
-    return found
+            lines.append(Line(name, "", rows[code].chained, message("as it was frozen")))
+    return lines
 
 
 # ==== a node above: the mean of the elementary indices, weighted by their weights in use, and the contribution of each
@@ -333,20 +333,24 @@ def adds_line(sources: Sources, node: str, code: str) -> Line:
 def contributions(sources: Sources, node: str) -> list[tuple[Fraction, str, Line]]:
     """The contributions of the aggregates below a node, the greatest first."""
     lines = [(code, adds_line(sources, node, code)) for code in below(sources, node)]
-    found = [(Fraction(line.value or 0), code, line) for code, line in lines]
-    return sorted(found, key=lambda it: (-abs(it[0]), it[1]))
+    contributions = [(Fraction(line.value or 0), code, line) for code, line in lines]
+    return sorted(contributions, key=lambda contribution: (-abs(contribution[0]), contribution[1]))
 
 
 def node_parts(sources: Sources, node: str) -> list[Part]:
     """The parts of a node above aggregates."""
     codes = below(sources, node)
     rows = [sources.own.levels[code] for code in codes]
-    weight, total = sum(it.weight for it in rows), sum(it.weight * it.within for it in rows)
-    products = " + ".join(f"{it.weight} * {it.within}" for it in rows)
+    weight, total = sum(level.weight for level in rows), sum(level.weight * level.within for level in rows)
+    products = " + ".join(f"{level.weight} * {level.within}" for level in rows)
     own, row = sources.own.levels[node], sources.row("level_2", node)
     mean = [
         Line(
-            message("sum of weights"), write_sum(it.weight for it in rows), own.weight, message("weights in use"), row
+            message("sum of weights"),
+            write_sum(level.weight for level in rows),
+            own.weight,
+            message("weights in use"),
+            row,
         ),
         Line(
             message("sum of weight * index"), products, total, message("each aggregate's weight in use times its index")
@@ -355,8 +359,8 @@ def node_parts(sources: Sources, node: str) -> list[Part]:
     ]
     titles = sources.plan.titles
     indices = [
-        Line(message("index of {code}", code=Code(code)), "", it.within, of_others(titles[code]))
-        for code, it in zip(codes, rows)
+        Line(message("index of {code}", code=Code(code)), "", row.within, of_others(titles[code]))
+        for code, row in zip(codes, rows)
     ]
     adds = [line for _, _, line in contributions(sources, node)[:MOST_CONTRIBUTIONS]]
     return [
@@ -390,8 +394,8 @@ def node_glance(sources: Sources, node: str) -> Section:
     """The aggregates below a node in one table; those that contribute most to the month come first."""
     rows: list[list[Cell]] = []
     for added, code, _ in contributions(sources, node):
-        it = sources.own.levels[code]
-        figures: list[Cell] = [it.weight, points(it.within, 2), tenths(it.month_change)]
+        level = sources.own.levels[code]
+        figures: list[Cell] = [level.weight, points(level.within, 2), tenths(level.month_change)]
         rows.append([code, sources.plan.titles[code], *figures, decimal(added.numerator, 10**6, 4)])
     heads = columns("=aggregate", "title", "#weight in use", "#index", "#month %", "#adds")
     note = message(

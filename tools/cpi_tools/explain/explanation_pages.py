@@ -37,9 +37,9 @@ def on_page(sources: Sources, node: str) -> list[str]:
 
 def write_one(sources: Sources, code: str, to: Path, teller: Teller = ENGLISH) -> list[Explanation]:
     """Writes the page of a node, which links to no other page; returns the explanations on it."""
-    found = [explain_node(sources, each) for each in on_page(sources, page_of(code))]
-    _write(section_pages.environment([TEMPLATES], teller), found, to, None)
-    return found
+    nodes = [explain_node(sources, each) for each in on_page(sources, page_of(code))]
+    _write(section_pages.environment([TEMPLATES], teller), nodes, to, None)
+    return nodes
 
 
 def write_life(life: Life, to: Path, teller: Teller = ENGLISH) -> None:
@@ -52,17 +52,19 @@ def write_all(sources: Sources, folder: Path, teller: Teller = ENGLISH) -> Itera
     environment = section_pages.environment([TEMPLATES], teller)
     for node in sources.own.levels:
         if page_of(node) == node:
-            found = [explain_node(sources, each) for each in on_page(sources, node)]
-            _write(environment, found, folder / f"{node}.html", sources)
-            yield from found
+            nodes = [explain_node(sources, each) for each in on_page(sources, node)]
+            _write(environment, nodes, folder / f"{node}.html", sources)
+            yield from nodes
 
 
-def _write(environment: jinja2.Environment, found: Sequence[Explanation], to: Path, linked: Optional[Sources]) -> None:
+def _write(
+    environment: jinja2.Environment, explanations: Sequence[Explanation], to: Path, linked: Optional[Sources]
+) -> None:
     """Writes a page. `linked` is given if the pages of the other nodes are next to it."""
-    head = found[0]
+    head = explanations[0]
     above = [*at_and_above(head.code)][:0:-1] if linked else []
     titles = linked.plan.titles if linked else {}
     below = [code for code in titles if parent_of(code) == head.code and depth_of(code) < AGGREGATE]
     links = {code: f"{page_of(code)}.html#{code}" for code in titles}
-    named = {"found": found, "above": above, "below": below, "titles": titles, "links": links}
+    named = {"found": explanations, "above": above, "below": below, "titles": titles, "links": links}
     page_templates.write_page(environment, "explain.html", to, shown=LINES_SHOWN, **named)

@@ -84,7 +84,7 @@ class Sources:
         self.office, self.month, self.money = office, month, money
         self.releases = office.releases()
         self._latest = {release.month: release for release in self.releases}
-        own = [it for it in self.releases if it.month == month and revision in (None, it.revision)]
+        own = [release for release in self.releases if release.month == month and revision in (None, release.revision)]
         if not own:
             raise NotExplained(self._no_release(revision))
         self.own = Month(office, own[-1])
@@ -96,7 +96,9 @@ class Sources:
         self.items: dict[str, Item] = {it.code: it for it in office.items()}
 
     def _no_release(self, revision: Optional[int]) -> Message:
-        month, known = month_of(self.month), [it.revision for it in self.releases if it.month == self.month]
+        month, known = month_of(self.month), [
+            release.revision for release in self.releases if release.month == self.month
+        ]
         if known:
             given, all_of_them = whole(revision or 0), row([whole(it) for it in known])
             return message(
@@ -139,8 +141,8 @@ class Sources:
     @cached_property
     def year_before(self) -> dict[str, Level]:
         """The table of the month twelve months earlier; empty if there is none."""
-        found = self.latest(self.month - 100)
-        return found.levels if found else {}
+        year = self.latest(self.month - 100)
+        return year.levels if year else {}
 
     # ---- samples and series
 
@@ -152,23 +154,23 @@ class Sources:
     @cached_property
     def samples(self) -> dict[str, list[Series]]:
         """The series of each aggregate's sample, from the rows of carried prices."""
-        found: dict[str, list[Series]] = {code: [] for code in self.aggregates}
-        for series, it in self.own.carried_prices.items():
-            found.setdefault(self.plan.places.get(it.item, ""), []).append(series)
-        return found
+        samples: dict[str, list[Series]] = {code: [] for code in self.aggregates}
+        for series, price in self.own.carried_prices.items():
+            samples.setdefault(self.plan.places.get(price.item, ""), []).append(series)
+        return samples
 
     @cached_property
     def assignments(self) -> dict[Series, list[Assignment]]:
         """The assignments of each series, from the first collector to the last."""
-        found: dict[Series, list[Assignment]] = {}
-        for it in self.office.assignments():
-            found.setdefault(it.series, []).append(it)
-        return found
+        assignments: dict[Series, list[Assignment]] = {}
+        for assignment in self.office.assignments():
+            assignments.setdefault(assignment.series, []).append(assignment)
+        return assignments
 
     def holder(self, series: Series, month: int) -> Assignment:
         """The assignment of the collector who prices a series in a month, or who had it last before."""
         own = self.assignments[series]
-        return next((it for it in reversed(own) if it.first_month <= month), own[0])
+        return next((assignment for assignment in reversed(own) if assignment.first_month <= month), own[0])
 
     @cached_property
     def copied_prices(self) -> dict[tuple[int, int], int]:
@@ -178,14 +180,14 @@ class Sources:
     @cached_property
     def stored_quotes(self) -> dict[tuple[Series, int], Sent]:
         """The quotes now stored for the month and for the link month, by series and month."""
-        found: dict[tuple[Series, int], Sent] = {}
+        sendings: dict[tuple[Series, int], Sent] = {}
         for month in (self.month, link_month(self.month)):
             quotes, receipts = self.office.quotes(month), self.office.receipts(month)
             for own in self.assignments.values():
                 for it in own:
                     if it[:2] in quotes and it.first_month <= month <= it.last_month:
-                        found[it.series, month] = Sent(it, quotes[it[:2]], receipts[it[:2]])
-        return found
+                        sendings[it.series, month] = Sent(it, quotes[it[:2]], receipts[it[:2]])
+        return sendings
 
     # ---- what a series counted as
 
@@ -193,15 +195,15 @@ class Sources:
         """The base of a series in ticks, and its scale."""
         if self.link.is_observed(series):
             return self.link.frozen[series].value * WHOLE_SCALE[0], WHOLE_SCALE
-        it = self.link.carried_prices[series]
-        return it.ticks, (it.knum, it.kden)
+        price = self.link.carried_prices[series]
+        return price.ticks, (price.knum, price.kden)
 
     def then(self, series: Series) -> tuple[int, tuple[int, int]]:
         """The price in ticks that a series counted as in the month before, and its scale; in January its base."""
         if self.is_january:
             return self.base(series)
-        it = self.before.carried_prices[series]
-        return it.ticks, (it.knum, it.kden)
+        price = self.before.carried_prices[series]
+        return price.ticks, (price.knum, price.kden)
 
     def is_comparable(self, series: Series) -> bool:
         """Whether a series has a comparable price."""

@@ -50,8 +50,8 @@ def level_words(millionths: int) -> Figure:
 
 def item_words(sources: Sources, series: Series) -> Message:
     """The item of a series, `Rice, 1 kg`."""
-    it = sources.items[sources.holder(series, sources.month).item]
-    return message(sentence_texts.ITEM, text=of_others(it.text), unit=of_others(it.unit))
+    item = sources.items[sources.holder(series, sources.month).item]
+    return message(sentence_texts.ITEM, text=of_others(item.text), unit=of_others(item.unit))
 
 
 def outlet_words(sources: Sources, series: Series) -> Worded:
@@ -82,7 +82,7 @@ def reasons_by_name(sources: Sources, imputed: Sequence[Series]) -> Message:
     """The reasons why some series are imputed: outlet by outlet if they are few, otherwise counted."""
     if len(imputed) > MOST_NAMES:
         return counted_reasons(sources, imputed)
-    parts = [(outlet_words(sources, it), sentence_texts.REASONS[reason_of(sources, it)]) for it in imputed]
+    parts = [(outlet_words(sources, series), sentence_texts.REASONS[reason_of(sources, series)]) for series in imputed]
     return part_texts(
         [message(sentence_texts.NAMED_REASON, outlet=outlet, reason=message(reason)) for outlet, reason in parts]
     )
@@ -90,8 +90,8 @@ def reasons_by_name(sources: Sources, imputed: Sequence[Series]) -> Message:
 
 def counted_reasons(sources: Sources, imputed: Iterable[Series]) -> Message:
     """The reasons why some series are imputed with their counts, the most frequent first."""
-    counts = Counter(sentence_texts.REASONS[reason_of(sources, it)] for it in imputed)
-    ordered = sorted(counts.items(), key=lambda it: (-it[1], it[0]))
+    counts = Counter(sentence_texts.REASONS[reason_of(sources, series)] for series in imputed)
+    ordered = sorted(counts.items(), key=lambda count: (-count[1], count[0]))
     return part_texts(
         [
             message(sentence_texts.COUNTED_REASON, reason=message(reason), count=count_words(count))
@@ -121,8 +121,8 @@ class Sample(NamedTuple):
 def sentences_of_prices(sources: Sources, code: str) -> Iterator[Message]:
     """The sentences from the prices that were compared to the level."""
     every = sources.samples[code]
-    matched = [it for it in every if sources.is_matched(it)]
-    sample = Sample(every, matched, [it for it in every if not sources.is_comparable(it)])
+    matched = [sample for sample in every if sources.is_matched(sample)]
+    sample = Sample(every, matched, [sample for sample in every if not sources.is_comparable(sample)])
     if matched:
         yield of_compared(sources, matched)
         if sample.imputed:
@@ -152,10 +152,10 @@ def span(sources: Sources, series: Series) -> dict[str, Message]:
 
 def of_compared(sources: Sources, matched: Sequence[Series]) -> Message:
     """The sentence that says how many prices were compared, in which shops, and which of them changed most."""
-    most = min(matched, key=lambda it: (-abs(change_of(sources, it)), it))
-    changes = [change_of(sources, it) for it in matched]
-    rose, fell = sum(it > 0 for it in changes), sum(it < 0 for it in changes)
-    outlets = [*dict.fromkeys(outlet_words(sources, it) for it in matched)]
+    most = min(matched, key=lambda series: (-abs(change_of(sources, series)), series))
+    changes = [change_of(sources, series) for series in matched]
+    rose, fell = sum(change > 0 for change in changes), sum(change < 0 for change in changes)
+    outlets = [*dict.fromkeys(outlet_words(sources, series) for series in matched)]
     return message(
         compared_form(sources, matched, most),
         count=count_words(len(matched)),
@@ -239,9 +239,9 @@ def returned_places(sources: Sources, returned: Sequence[Series]) -> dict[str, o
     """The places of a sentence about prices that were found again: their number, and the one that changed most, with
     the prices that it counted as and counts as."""
     most = returned[0]
-    then, found = span(sources, most).values()
+    then, places = span(sources, most).values()
     named = {"item": item_words(sources, most), "outlet": outlet_words(sources, most)}
-    return {"returned": count_words(len(returned)), "then": then, "found": found, **named}
+    return {"returned": count_words(len(returned)), "then": then, "found": places, **named}
 
 
 def level_form(sources: Sources, count: int, returned: Sequence[Series]) -> str:
@@ -309,14 +309,14 @@ def of_contributions(sources: Sources, node: str) -> Message:
 
 def imputed_of(sources: Sources, sample: Sequence[Series]) -> list[Series]:
     """The series of a sample that are imputed."""
-    return [it for it in sample if sources.own.carried_prices[it].imputed]
+    return [series for series in sample if sources.own.carried_prices[series].imputed]
 
 
 def samples_part(sources: Sources, node: str) -> Part:
     """The number of a node's prices, how many of them are imputed, and in how many outlets collectors searched for
     them."""
     samples = [sources.samples[code] for code in below(sources, node)]
-    counts, imputed = [len(it) for it in samples], [len(imputed_of(sources, it)) for it in samples]
+    counts, imputed = [len(sample) for sample in samples], [len(imputed_of(sources, sample)) for sample in samples]
     outlets = len(outlets_of(sources, (series for sample in samples for series in sample)))
     lines = [
         Line(
@@ -370,7 +370,7 @@ def reasons_below(sources: Sources, node: str, imputed: Sequence[Series]) -> Mes
 def is_carried(sources: Sources, code: str) -> bool:
     """Whether no price of an aggregate could be compared, so that it is carried."""
     sample = sources.samples[code]
-    return bool(imputed_of(sources, sample)) and not any(sources.is_matched(it) for it in sample)
+    return bool(imputed_of(sources, sample)) and not any(sources.is_matched(sample) for sample in sample)
 
 
 # ==== A figure in three to six sentences, which come before its lines. The lines derive each figure in them.
@@ -414,9 +414,11 @@ def of_changes(sources: Sources, code: str) -> Message:
 def other_revision(sources: Sources, code: str) -> Optional[Release]:
     """The revision that replaced this one, or that this one replaced; None if it doesn't contain the node."""
     own = sources.own.release
-    others = [it for it in sources.releases if it.month == own.month and it.revision != own.revision]
-    found = others[-1] if others else None
-    return found if found and code in sources.office.levels(found) else None
+    others = [
+        release for release in sources.releases if release.month == own.month and release.revision != own.revision
+    ]
+    revision = others[-1] if others else None
+    return revision if revision and code in sources.office.levels(revision) else None
 
 
 def given_away(sources: Sources, code: str) -> list[tuple[Assignment, Assignment]]:
@@ -425,7 +427,9 @@ def given_away(sources: Sources, code: str) -> list[tuple[Assignment, Assignment
     for series in sources.samples.get(code, []):
         held = sources.assignments[series]
         pairs = zip(held, held[1:])
-        found += [it for it in pairs if it[1].first_month == sources.month and it[0].collector != it[1].collector]
+        found += [
+            pair for pair in pairs if pair[1].first_month == sources.month and pair[0].collector != pair[1].collector
+        ]
     return found
 
 

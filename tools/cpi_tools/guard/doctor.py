@@ -205,12 +205,12 @@ def opener_of(path: Path, named: Optional[str]) -> User:
         folder = path.absolute().parent
         return user_of(folder.stat().st_uid) if os.geteuid() == 0 and folder.is_dir() else this_user()
     try:
-        found = pwd.getpwnam(named)
+        opener = pwd.getpwnam(named)
     except KeyError as fault:
         raise Fault(f"there is no user {named}") from fault
-    if os.geteuid() not in (0, found.pw_uid):
+    if os.geteuid() not in (0, opener.pw_uid):
         raise Fault(f"only root can see what {named} may do")
-    return user_of(found.pw_uid)
+    return user_of(opener.pw_uid)
 
 
 # ---- who holds it, and whether there is room
@@ -458,9 +458,9 @@ def run(chosen: argparse.Namespace) -> int:
         return 0
     cpi = Cpi(chosen.program)
     with Progress("cpi-tools doctor") as progress:
-        found = cause_of(path, opener_of(path, chosen.user), cpi, progress)
-    if found:
-        print(f"{path}: {found.because}. {found.do}.")
+        cause = cause_of(path, opener_of(path, chosen.user), cpi, progress)
+    if cause:
+        print(f"{path}: {cause.because}. {cause.do}.")
         return 1
     if (other := other_log_of(path)) and not other.is_sure:
         print(f"cpi-tools doctor: {path}: warning: {other.because}: {DOUBT}", file=sys.stderr)

@@ -80,8 +80,8 @@ def drill(cpi: Cpi, path: Path, progress: Optional[Progress] = None) -> Drilled:
                     faults += each
         except sqlite3.Error as fault:
             faults.append(f"the C library can't read it: {fault}")
-    found = (counts.tables, counts.rows, counts.carried, counts.quotes, counts.other_quotes, counts.collectors)
-    return Drilled(*found, note, tuple(faults), tuple(warnings_of(path, counts)))
+    drills = (counts.tables, counts.rows, counts.carried, counts.quotes, counts.other_quotes, counts.collectors)
+    return Drilled(*drills, note, tuple(faults), tuple(warnings_of(path, counts)))
 
 
 def warnings_of(path: Path, counts: Counts) -> Iterator[str]:

@@ -67,13 +67,13 @@ def records_in(text: str, name: str) -> list[Record]:
     """The records of a list, without moment and caller. Raises Fault, which names the line, if one is none of the
     desk."""
     rows = csv.reader(io.StringIO(text.lstrip("\ufeff"), newline=""), strict=True)
-    found = [Record(tuple(row), rows.line_num) for row in rows if row]
-    for record in found:
+    records = [Record(tuple(row), rows.line_num) for row in rows if row]
+    for record in records:
         if fault := _form_fault(record):
             raise Fault(f"{name}, line {record.line}: {fault}")
-    if not found:
+    if not records:
         raise Fault(f"{name} has no record")
-    return found
+    return records
 
 
 def _form_fault(record: Record) -> str:
@@ -111,7 +111,7 @@ def _is_there(record: Record, known: Known, moments: Mapping[str, int]) -> bool:
         rows = csv.reader(io.StringIO(others[0].lstrip("\ufeff"), newline=""))
         return known.plans.get(first) == frozenset(tuple(row) for row in rows if row)
     if record.word == "freeze":
-        return any(month == first and it.carry == {*others} for (month, _), it in known.releases.items())
+        return any(month == first and release.carry == {*others} for (month, _), release in known.releases.items())
     return known.has(SentRow([*record.fields], Origin("", record.line), ()))
 
 
@@ -316,10 +316,10 @@ def run(chosen: argparse.Namespace) -> int:
     out = Writer(sys.stdout)
     for row in rows:
         out.writerow(row)
-    found = len(rows) if chosen.records else max(0, len(rows) - 1)
-    text = f"{found:,} of {write_count(wanted, 'row')}" if found else f"nothing of {write_count(wanted, 'row')}"
-    print(f"cpi-tools gaps: {text} {'are' if found > 1 else 'is'} missing in {chosen.file}", file=sys.stderr)
-    return MISSING if found else 0
+    count = len(rows) if chosen.records else max(0, len(rows) - 1)
+    text = f"{count:,} of {write_count(wanted, 'row')}" if count else f"nothing of {write_count(wanted, 'row')}"
+    print(f"cpi-tools gaps: {text} {'are' if count > 1 else 'is'} missing in {chosen.file}", file=sys.stderr)
+    return MISSING if count else 0
 
 
 def _compared_prices(chosen: argparse.Namespace) -> tuple[int, list[tuple[object, ...]]]:
@@ -340,8 +340,8 @@ def _compared_records(chosen: argparse.Namespace) -> tuple[int, list[tuple[objec
     with Progress("cpi-tools gaps") as progress:
         progress.now(f"reading {chosen.file}")
         with private_copy(chosen.file) as copy, read_copy(copy) as office:
-            found = missing_records(Cpi(chosen.program), sent, office, chosen.zone)
-    return len(sent), [record.fields for record in found]
+            records = missing_records(Cpi(chosen.program), sent, office, chosen.zone)
+    return len(sent), [record.fields for record in records]
 
 
 def _run_of_offices(chosen: argparse.Namespace) -> int:

@@ -162,7 +162,7 @@ class Registered:
             return _after((word,), _same_or_first(fields[1:], self._places.get(fields[1:3], [])))
         if word == "handover":
             ways = (("from", *fields[1:3]), ("to", *fields[3:5]))
-            return _after((word,), _same_or_first(fields[1:], [self._moved[it] for it in ways if it in self._moved]))
+            return _after((word,), _same_or_first(fields[1:], [self._moved[way] for way in ways if way in self._moved]))
         if word == "plan":
             return self._plan(fields)
         if word == "item":
@@ -205,7 +205,7 @@ def _compare(fields: Fields, here: Optional[Fields]) -> tuple[str, str, str]:
 
 def _freezes(old: StoredOffice, new: StoredOffice, different: list[Different]) -> Iterator[Fields]:
     """The freezes that NEW lacks, in their order. One that both have is the same if its carry list and its table are."""
-    releases = {it[:2]: it for it in new.releases()}
+    releases = {release[:2]: release for release in new.releases()}
     for release in old.releases():
         month = month_text(release.month)
         here = releases.get(release[:2])
@@ -236,13 +236,13 @@ def entries_of(office: StoredOffice) -> dict[At, Entry]:
 def _find_barred(old: StoredOffice, new: StoredOffice, others: Collection[str]) -> dict[tuple[int, int], str]:
     """The slots for which nothing can be sent, and why: NEW gave the number to another person, or the slot to another
     series."""
-    of_new = {(it.collector, it.slot): (it.outlet, it.item) for it in new.assignments()}
+    of_new = {(place.collector, place.slot): (place.outlet, place.item) for place in new.assignments()}
     found = dict[tuple[int, int], str]()
-    for it in old.assignments():
-        slot = (it.collector, it.slot)
-        if str(it.collector) in others:
+    for assignment in old.assignments():
+        slot = (assignment.collector, assignment.slot)
+        if str(assignment.collector) in others:
             found[slot] = OTHER_PERSON
-        elif of_new.get(slot, (it.outlet, it.item)) != (it.outlet, it.item):
+        elif of_new.get(slot, (assignment.outlet, assignment.item)) != (assignment.outlet, assignment.item):
             found[slot] = "this slot prices another item or outlet"
     return found
 
@@ -254,7 +254,7 @@ def last_common(old: Mapping[At, Entry], new: Mapping[At, Entry]) -> dict[int, i
     for at in old.keys() | new.keys():
         entries = old.get(at), new.get(at)
         if entries[0] != entries[1]:
-            differs = max(it.receipt for it in entries if it)
+            differs = max(entry.receipt for entry in entries if entry)
             found[at[0]] = min(differs - 1, found.get(at[0], differs))
     return found
 
@@ -300,7 +300,7 @@ DIFFERENT = ("by", "record", "old", "new")
 def rows_by_person(lacks: Lacking) -> Iterator[tuple[str, ...]]:
     """All rows to send, each after the person who sends it: `desk`, or the number of a collector."""
     yield from ((DESK, *fields) for fields in lacks.records)
-    yield from ((str(it.at[0]), *it.fields) for it in lacks.prices)
+    yield from ((str(price.at[0]), *price.fields) for price in lacks.prices)
     yield from ((DESK, *fields) for fields in lacks.freezes)
 
 
@@ -328,7 +328,10 @@ def write_folder(folder: Path, lacks: Lacking) -> None:
             with private_file(made / name) as file:
                 write_records(file, rows)
         if lacks.prices:
-            prices = ((*it.at[:2], month_text(it.at[2]), *it.entry, because_of_entry(it.here)) for it in lacks.prices)
+            prices = (
+                (*price.at[:2], month_text(price.at[2]), *price.entry, because_of_entry(price.here))
+                for price in lacks.prices
+            )
             write_rows(made / "prices.csv", (*HEADS, "because"), prices)
         if lacks.different:
             write_rows(made / "different.csv", DIFFERENT, lacks.different)
@@ -339,7 +342,7 @@ def _files(lacks: Lacking) -> Iterator[tuple[str, list[Fields]]]:
     """The files of rows to send, by their names."""
     if lacks.records:
         yield "1-desk.csv", lacks.records
-    for collector, own in groupby(lacks.prices, key=lambda it: it.at[0]):
+    for collector, own in groupby(lacks.prices, key=lambda price: price.at[0]):
         yield f"2-collector-{collector}.csv", [it.fields for it in own]
     if lacks.freezes:
         yield "3-freezes.csv", lacks.freezes
@@ -360,7 +363,7 @@ def lines_of(lacks: Lacking, old: Path, new: Path) -> Iterator[str]:
 
 def _sum(lacks: Lacking) -> str:
     """The sentence with the number of prices and records that an office lacks."""
-    collectors = len({it.at[0] for it in lacks.prices})
+    collectors = len({price.at[0] for price in lacks.prices})
     parts = [write_count(len(lacks.records), "record")] if lacks.records else []
     parts += (
         [f"{write_count(len(lacks.prices), 'price')} of {write_count(collectors, 'collector')}"] if lacks.prices else []

@@ -89,8 +89,8 @@ def _unit_of(process: int) -> Optional[str]:
 
 def unit_in(groups: str) -> Optional[str]:
     """`cpi.service` from the text of /proc/PID/cgroup, None if it names no service of the machine."""
-    found = re.search(r"/system\.slice/(?:[^/\n]+/)*?([^/\n]+\.service)(?=/|$)", groups, re.M)
-    return found[1] if found else None
+    match = re.search(r"/system\.slice/(?:[^/\n]+/)*?([^/\n]+\.service)(?=/|$)", groups, re.M)
+    return match[1] if match else None
 
 
 # ==== the rights of a user on files, as the system decides them: by modes, groups, access lists and mounts alike
@@ -107,10 +107,10 @@ class User(NamedTuple):
 def user_of(number: int) -> User:
     """The user with a number, who may have no name."""
     try:
-        found = pwd.getpwuid(number)
+        user = pwd.getpwuid(number)
     except KeyError:
         return User(f"user {number}", number, number)
-    return User(found.pw_name, number, found.pw_gid)
+    return User(user.pw_name, number, user.pw_gid)
 
 
 def this_user() -> User:

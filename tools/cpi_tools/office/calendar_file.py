@@ -38,21 +38,21 @@ ZONES = ("opens_zone", "closes_zone")
 def windows_since(windows: Iterable[Window], since: Optional[int], now: int) -> list[Window]:
     """The windows from a month on; without one, those that close in the last 400 days before `now` or later."""
     if since is not None:
-        return [it for it in windows if it.month >= since]
-    return [it for it in windows if it.closes >= now - DAYS_KEPT * DAY_SECONDS]
+        return [window for window in windows if window.month >= since]
+    return [window for window in windows if window.closes >= now - DAYS_KEPT * DAY_SECONDS]
 
 
-def row_of(it: Window, clock: Clock) -> dict[str, object]:
+def row_of(window: Window, clock: Clock) -> dict[str, object]:
     """A month of the calendar; a clock that is UTC isn't named."""
-    row: dict[str, object] = dict(zip(COLUMNS, (month_text(it.month), it.opens, it.closes)))
+    row: dict[str, object] = dict(zip(COLUMNS, (month_text(window.month), window.opens, window.closes)))
     if clock.zone:
-        row.update(zip(ZONES, map(clock.zone_at, (it.opens, it.closes))))
+        row.update(zip(ZONES, map(clock.zone_at, (window.opens, window.closes))))
     return row
 
 
 def text_of(windows: Iterable[Window], clock: Clock = UTC) -> str:
     """The calendar of some windows, a month a line."""
-    rows = (row_of(it, clock) for it in windows)
+    rows = (row_of(window, clock) for window in windows)
     return '{"months": [' + ",".join(f"\n{json.dumps(row)}" for row in rows) + "\n]}\n"
 
 
@@ -64,7 +64,7 @@ def is_calendar(content: bytes) -> bool:
         return False
     months = found.get("months") if isinstance(found, dict) and [*found] == ["months"] else None
     return isinstance(months, list) and all(
-        isinstance(it, dict) and tuple(it) in (COLUMNS, (*COLUMNS, *ZONES)) for it in months
+        isinstance(month, dict) and tuple(month) in (COLUMNS, (*COLUMNS, *ZONES)) for month in months
     )
 
 

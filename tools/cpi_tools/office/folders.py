@@ -158,8 +158,8 @@ class HeldFolder:
             if fault.errno in (errno.ELOOP, errno.ENOTDIR):
                 raise NotPlain(self.path / name, "a folder") from fault
             raise self._name_file(fault, name) from fault
-        with _closing(self.path / name, number) as found:
-            yield found
+        with _closing(self.path / name, number) as held_folder:
+            yield held_folder
 
     @contextlib.contextmanager
     def new_folder(self, name: str) -> Iterator[HeldFolder]:
@@ -169,11 +169,11 @@ class HeldFolder:
             os.mkdir(name, 0o700, dir_fd=self.number)
         except OSError as fault:
             raise self._name_file(fault, name) from fault
-        with self.folder(name) as found:
-            known = os.fstat(found.number)
+        with self.folder(name) as path:
+            known = os.fstat(path.number)
             if known.st_uid != os.geteuid() or known.st_mode & 0o077:
                 raise NotPlain(self.path / name, "the folder that was made")
-            yield found
+            yield path
 
     @contextlib.contextmanager
     def made_folder(self, name: str) -> Iterator[HeldFolder]:
@@ -184,8 +184,8 @@ class HeldFolder:
             pass
         except OSError as fault:
             raise self._name_file(fault, name) from fault
-        with self.folder(name) as found:
-            yield found
+        with self.folder(name) as path:
+            yield path
 
     def remove(self, name: str, is_missing_ok: bool = True) -> None:
         """Removes a file, or a link itself. Raises OSError."""
@@ -220,13 +220,13 @@ class HeldFolder:
                 self.remove(beside)
             raise self._name_file(fault, name) if isinstance(fault, OSError) else fault
 
-    def has(self, name: str, it: Optional[os.stat_result] = None) -> bool:
+    def has(self, name: str, status: Optional[os.stat_result] = None) -> bool:
         """Whether anything has a name in it, a link too; or whether a file has that name, as it was seen."""
         try:
             found = os.stat(name, dir_fd=self.number, follow_symlinks=False)
         except FileNotFoundError:
             return False
-        return it is None or (found.st_dev, found.st_ino) == (it.st_dev, it.st_ino)
+        return status is None or (found.st_dev, found.st_ino) == (status.st_dev, status.st_ino)
 
     def sync(self) -> None:
         """Waits until its names are on the disk. Raises OSError."""
@@ -245,8 +245,8 @@ class HeldFolder:
 @contextlib.contextmanager
 def hold_folder(path: Path) -> Iterator[HeldFolder]:
     """A folder that somebody named, who may name a link to it. Raises OSError."""
-    with _closing(path, os.open(path, FOLDER)) as found:
-        yield found
+    with _closing(path, os.open(path, FOLDER)) as held_folder:
+        yield held_folder
 
 
 def first_line(path: Path, otherwise: str) -> str:
@@ -310,11 +310,11 @@ class NotPlaced(Fault):
 
 def files_of(folder: Path) -> list[str]:
     """All files of a folder, by their names in it. (A pack has tens of thousands, and no `Path` is made of each.)"""
-    found = list[str]()
+    files = list[str]()
     for top, _, names in os.walk(folder):
         within = Path(top).relative_to(folder).as_posix()
-        found += names if within == "." else [f"{within}/{name}" for name in names]
-    return sorted(found)
+        files += names if within == "." else [f"{within}/{name}" for name in names]
+    return sorted(files)
 
 
 def refuse_shared(out: Path, what: str) -> None:

@@ -110,13 +110,17 @@ def read_published(cpi: Cpi, copy: Path, at: int) -> list[Listed]:
 
 def read_last_releases(office: StoredOffice, published: Sequence[Listed]) -> dict[str, Release]:
     """By month like `2026-01`, the last revision that is published, of months whose table has rows."""
-    out = {(it.month, it.revision) for it in published}
-    found = {month_text(it.month): it for it in office.releases() if (month_text(it.month), it.revision) in out}
-    return {month: it for month, it in found.items() if office.titles(it)}
+    out = {(listing.month, listing.revision) for listing in published}
+    releases = {
+        month_text(release.month): release
+        for release in office.releases()
+        if (month_text(release.month), release.revision) in out
+    }
+    return {month: release for month, release in releases.items() if office.titles(release)}
 
 
 def read_frozen_quotes(office: StoredOffice, release: Release, slots: Sequence[Assignment]) -> Iterator[FrozenQuote]:
     """The quotes that a release was computed from; `slots` are all of the office."""
-    outlets = {it.series: it.outlet for it in slots if it.first_month <= release.month <= it.last_month}
+    outlets = {slot.series: slot.outlet for slot in slots if slot.first_month <= release.month <= slot.last_month}
     for series, quote in office.frozen(release).items():
         yield FrozenQuote(quote.item, outlets[series], quote.mark, quote.value)

@@ -39,8 +39,8 @@ def mark_words(mark: str) -> Message:
 
 def marks_of(sample: Iterable[Series], quotes: Mapping[Series, Frozen]) -> Message:
     """`2 price, 8 stock` of some series."""
-    found = Counter(quotes[it].mark if it in quotes else SILENT for it in sample)
-    ordered = sorted(found.items(), key=lambda it: (-it[1], it[0]))
+    marks = Counter(quotes[series].mark if series in quotes else SILENT for series in sample)
+    ordered = sorted(marks.items(), key=lambda mark: (-mark[1], mark[0]))
     # t: how many series have a mark: 2 price
     return row([message("{count} {mark}", count=whole(count), mark=mark_words(mark)) for mark, count in ordered])
 

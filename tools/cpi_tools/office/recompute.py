@@ -76,9 +76,9 @@ def carry_prices(kept: Kept, now: Quotes, before: Quotes, is_carried: bool) -> K
     matched = [it for it in found if before.get(it, ("", 0))[1]]
     up, down = (sum(prices[it][0] for it in matched) for prices in (carried, kept))
     up, down = (1, 1) if not matched and is_carried else (up, down)
-    for it in kept.keys() - found.keys():
-        ticks, price = round_ratio(kept[it][0] * up, down), now.get(it, ("", 0))[1]
-        carried[it] = (ticks, ticks, price, 1) if price else (ticks, *kept[it][1:3], 1)
+    for key in kept.keys() - found.keys():
+        ticks, price = round_ratio(kept[key][0] * up, down), now.get(key, ("", 0))[1]
+        carried[key] = (ticks, ticks, price, 1) if price else (ticks, *kept[key][1:3], 1)
     return carried
 
 
@@ -91,7 +91,7 @@ def table(
     rows: dict[str, tuple[Any, ...]] = {}
     for code, weight in weights.items():
         index = round_ratio(
-            10**8 * sum(it[0] for it in kept[code].values()), sum(it[0] for it in bases[code].values())
+            10**8 * sum(it[0] for it in kept[code].values()), sum(base[0] for base in bases[code].values())
         )
         for node in {"00", *(code[:end] for end in (2, 4, 6, 8, 11))}:
             whole = sums.setdefault(node, [0, 0, 0])

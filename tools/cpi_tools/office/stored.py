@@ -217,8 +217,8 @@ class StoredOffice:
 
     def collector_of(self, key: str) -> Optional[int]:
         """The number of the collector who bears a key, if there is one."""
-        found = self.ask("SELECT number FROM collector WHERE key = ?", key)
-        return int(found[0][0]) if found else None
+        collector = self.ask("SELECT number FROM collector WHERE key = ?", key)
+        return int(collector[0][0]) if collector else None
 
     def outlets(self) -> dict[int, str]:
         """The name of each outlet."""
@@ -239,14 +239,14 @@ class StoredOffice:
     def plans(self) -> list[Plan]:
         """The plans, by year."""
         references = self.references()
-        found: dict[int, Plan] = {}
+        plans: dict[int, Plan] = {}
         for year, code, title, weight in self.ask("SELECT year, code, title, weight FROM node ORDER BY year, code"):
-            plan = found.setdefault(year, Plan(year, {}, {}, {}, references.get(year)))
+            plan = plans.setdefault(year, Plan(year, {}, {}, {}, references.get(year)))
             plan.titles[code] = title
             plan.weights[code] = weight
         for year, item, code in self.ask("SELECT year, item, code FROM plan_item ORDER BY year, item"):
-            found[year].places[item] = code
-        return [*found.values()]
+            plans[year].places[item] = code
+        return [*plans.values()]
 
     def references(self) -> dict[int, int]:
         """The reference month of each plan that has one, by year."""
@@ -322,11 +322,11 @@ class StoredOffice:
 
     def fingerprint(self, tables: Iterable[str]) -> str:
         """A sum over the content of some tables, in hexadecimal."""
-        found = hashlib.sha256()
+        fingerprint = hashlib.sha256()
         for table in tables:
             for row in self._link.execute(f"SELECT * FROM {table} ORDER BY 1, 2"):
-                found.update(repr(row).encode())
-        return found.hexdigest()
+                fingerprint.update(repr(row).encode())
+        return fingerprint.hexdigest()
 
     def copied_prices(self) -> dict[Slot, int]:
         """The price that was handed over with each slot, if there was one, in minor units."""
@@ -357,10 +357,10 @@ class StoredOffice:
             " WHERE q.month BETWEEN ? AND ? AND q.value > 0 ORDER BY q.month",
             *(first, last),
         )
-        found: dict[Series, list[int]] = defaultdict(list)
+        lists: dict[Series, list[int]] = defaultdict(list)
         for collector, slot, month in rows:
-            found[collector, slot].append(month)
-        return found
+            lists[collector, slot].append(month)
+        return lists
 
     def frozen_of(self, series: Series) -> dict[tuple[int, int], Frozen]:
         """The frozen quotes of a series, by month and revision."""

@@ -127,15 +127,15 @@ def found_in(
 
 def slots_of(office: StoredOffice, collectors: Sequence[int]) -> list[Assignment]:
     """All slots of some collectors."""
-    found = list[Assignment]()
+    slots = list[Assignment]()
     for collector in collectors:
         rows = office.ask(
             "SELECT collector, slot, outlet, item, first_month, last_month, series_collector, series_slot"
             " FROM assignment_2 WHERE collector = ? ORDER BY slot",
             collector,
         )
-        found += [Assignment(*row[:6], (row[6], row[7])) for row in rows]  # type: ignore[call-arg]
-    return found
+        slots += [Assignment(*row[:6], (row[6], row[7])) for row in rows]  # type: ignore[call-arg]
+    return slots
 
 
 def last_months_of(office: StoredOffice, collectors: Sequence[int]) -> dict[Series, int]:

@@ -175,7 +175,10 @@ def _part_fields(text: str) -> Columns:
     if plain.count('"') != columns[7].count('"') or columns[7].count('"') != len(titled):
         return []
     quoted = iter(titled)
-    return [*columns[:7], tuple([next(quoted) if it == '"' else it for it in columns[7]]) if titled else columns[7]]
+    return [
+        *columns[:7],
+        tuple([next(quoted) if column == '"' else column for column in columns[7]]) if titled else columns[7],
+    ]
 
 
 def _is_column(form: re.Pattern[str], texts: Iterable[str]) -> bool:
@@ -191,8 +194,8 @@ def _of_fields(text: str) -> Columns:
 
 def _fields(fields: Sequence[str]) -> Sequence[str]:
     """The fields of a row, its title in quotation marks. Raises ValueError if they are none."""
-    found = FIGURES.fullmatch(",".join(fields[1:7]))
-    if len(fields) != 8 or not CODE.fullmatch(fields[0]) or not found:
+    match = FIGURES.fullmatch(",".join(fields[1:7]))
+    if len(fields) != 8 or not CODE.fullmatch(fields[0]) or not match:
         raise ValueError(",".join(fields))
     return [*fields[:7], '"{}"'.format(fields[7].replace('"', '""'))]
 

@@ -51,9 +51,9 @@ def tables_of(published: Iterable[Published]) -> Iterator[tuple[Published, Table
     """Some published tables, each of which shares equal values with the one before. Raises NotATable."""
     last = NO_ROWS
     for each in published:
-        found = table_of(each, last)
-        last = found.rows or last
-        yield each, found
+        table = table_of(each, last)
+        last = table.rows or last
+        yield each, table
 
 
 # ---- months
@@ -174,7 +174,7 @@ Group = tuple[Mapping[str, int], list[Sequence[int]]]
 
 def _groups(rows: Mapping[str, Rows], months: Sequence[str], name: str) -> list[Group]:
     """A figure of some months in groups of these; for a month without a table, no node has a place."""
-    named = groupby((rows.get(month, NO_ROWS) for month in months), key=lambda it: it.named.places)
+    named = groupby((rows.get(month, NO_ROWS) for month in months), key=lambda row: row.named.places)
     return [(places, [getattr(it, name) for it in found]) for places, found in named]
 
 
@@ -231,7 +231,7 @@ class Series:
             if any(before(first, 12) <= month <= last for month in it.rows):
                 part.specials[name] = it.part(last)
         found_core = ((name, it.part(first, last)) for name, it in self.core.items())
-        part.core = {name: it for name, it in found_core if it.rows}
+        part.core = {name: part for name, part in found_core if part.rows}
         part._twelve = {}
         return part
 
@@ -317,11 +317,11 @@ class Series:
     def _sums(self, months: list[str]) -> dict[str, int]:
         tables = [self._rows.get(month, NO_ROWS) for month in months]
         sums = zip(tables[0].named.codes, zip(*(rows.levels_for(tables[0]) for rows in tables)))
-        found = {code: sum(levels) for code, levels in sums if None not in levels}
+        totals = {code: sum(levels) for code, levels in sums if None not in levels}
         for name, it in self.specials.items():
             if all(month in it.rows for month in months):
-                found[name] = sum(it.rows[month].chained for month in months)
-        return found
+                totals[name] = sum(it.rows[month].chained for month in months)
+        return totals
 
     def rows(self, code: str) -> list[Optional[Row]]:
         """The rows of a node in all months."""
@@ -330,8 +330,8 @@ class Series:
     @property
     def all_titles(self) -> dict[str, str]:
         """The titles of all nodes by code, and then those of special aggregates by id."""
-        found = {**self.titles, **{name: it.title for name, it in self.specials.items()}}
-        return {code: self.name_node(code, title) for code, title in found.items()} if self.other_titles else found
+        titles = {**self.titles, **{name: it.title for name, it in self.specials.items()}}
+        return {code: self.name_node(code, title) for code, title in titles.items()} if self.other_titles else titles
 
     def title(self, code: str) -> str:
         """The title of a node."""
@@ -344,14 +344,14 @@ class Series:
     def with_titles(self, titles: Mapping[str, str]) -> Series:
         """The same tables for readers of another language: with its titles by code and, for codes without one, the
         tables' titles."""
-        found = copy.copy(self)
-        found.other_titles = titles
-        return found
+        copy_ = copy.copy(self)
+        copy_.other_titles = titles
+        return copy_
 
     def level_in(self, month: str, code: str) -> int:
         """A node's level in a month, in millionths of a point: 100 in the first month of all."""
-        found = self.level(month, code)
-        return HUNDRED if found is None else found
+        level = self.level(month, code)
+        return HUNDRED if level is None else level
 
     def link_level(self, month: str, code: str) -> int:
         """The level to which a node's level in the month of a year is linked, in millionths of a point: 100 in its
@@ -479,23 +479,23 @@ class Series:
 
 def _titles(tables: Iterable[Rows]) -> dict[str, str]:
     """The latest title of each code, in the order of codes; tables are in the order of months."""
-    found: dict[str, str] = {}
+    titles: dict[str, str] = {}
     last = NO_ROWS.named
     for rows in tables:
         if rows.named is not last:
             last = rows.named
-            found.update(zip(last.codes, last.titles))
-    return dict(sorted(found.items()))
+            titles.update(zip(last.codes, last.titles))
+    return dict(sorted(titles.items()))
 
 
 def _children(codes: Iterable[str]) -> dict[str, list[str]]:
     """By node, those next below it."""
-    found: dict[str, list[str]] = {}
+    children: dict[str, list[str]] = {}
     for code in codes:
         above = parent_of(code)
         if above is not None:
-            found.setdefault(above, []).append(code)
-    return found
+            children.setdefault(above, []).append(code)
+    return children
 
 
 def _starts(tables: Iterable[Table]) -> dict[str, list[str]]:

@@ -133,7 +133,7 @@ def must(session: Session, fields: Record) -> None:
     reply = session.ask(record(*fields))
     if "refused" in reply:
         to = DESK if fields[1] == "desk" else COLLECTOR
-        raise Refused(reply, " ".join(str(it) for it in fields[2:]), str(fields[2]), to)
+        raise Refused(reply, " ".join(str(field) for field in fields[2:]), str(fields[2]), to)
 
 
 def frozen_with(session: Session, month: int, at: int, carry: Sequence[str]) -> tuple[str, ...]:
@@ -161,7 +161,7 @@ def tables_around(session: Session, month: str, revision: int) -> list[Published
 def other_tables_in(session: Session, month: str, known: Sequence[Published]) -> list[Published]:
     """The latest tables of all months but one, as they are printed once all are published. Known tables aren't printed
     again: a revision of a month always has the same table."""
-    had = {it.listed[:2]: it.table for it in known}
+    had = {publication.listed[:2]: publication.table for publication in known}
     listed = listed_in(session.ask(record(LAST_MOMENT, "public", "tables")))
     latest = {each.month: each for each in sorted(listed) if each.month != month}
     # (the table of the first December is empty)

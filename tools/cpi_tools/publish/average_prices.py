@@ -111,15 +111,15 @@ class _Reader:
         titles, corrections = words.get(ITEMS, {}), words.get(CORRECTIONS, [])
         if not isinstance(titles, dict) or not titles:
             self._refuse((ITEMS,), f'{ITEMS} has no item: wanted lines like RICE = "Rice, packed" below [{ITEMS}]')
-        if not isinstance(corrections, list) or not all(isinstance(it, dict) for it in corrections):
+        if not isinstance(corrections, list) or not all(isinstance(correction, dict) for correction in corrections):
             self._refuse((CORRECTIONS,), f"{CORRECTIONS} is {corrections!r}: wanted tables [[{CORRECTIONS}]]")
         for code, title in titles.items():
             if not ITEM.fullmatch(code):
                 self._refuse((ITEMS, code), f"{code} is no code of an item: wanted 1 to 12 of A-Z and 0-9")
             self._test_text((ITEMS, code), code, title)
-        found = [self._correction(number, it) for number, it in enumerate(corrections)]
-        self._test_once(found)
-        return self._empty._replace(titles=titles, corrections=tuple(found))
+        items = [self._correction(number, correction) for number, correction in enumerate(corrections)]
+        self._test_once(items)
+        return self._empty._replace(titles=titles, corrections=tuple(items))
 
     def _correction(self, number: int, words: Mapping[str, Any]) -> Correction:
         key = CORRECTIONS, str(number)
@@ -146,10 +146,10 @@ class _Reader:
         """Refuses a correction that appears twice: each further one of an item and a month needs a reason of its
         own."""
         lines: dict[tuple[str, ...], int] = {}
-        for it in corrections:
-            first = lines.setdefault(it[:3], it.line)
-            if first != it.line:
-                self._empty.refuse(it.line, f"it is the correction of line {first}: wanted another reason")
+        for correction in corrections:
+            first = lines.setdefault(correction[:3], correction.line)
+            if first != correction.line:
+                self._empty.refuse(correction.line, f"it is the correction of line {first}: wanted another reason")
 
 
 # ==== `cpi-tools average-prices`: average prices of items that the office lists, from the frozen quotes of a copy

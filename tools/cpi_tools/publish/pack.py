@@ -263,15 +263,26 @@ def publish(
         if standing and last:
             _refuse_older(last, standing)
         reasons = given_reasons(config.reasons, series, config.planned)
-        earlier = {it.folder: it.refuse_changes(series, config, reasons) for it in (standing, last) if it}
+        earlier = {
+            last_month.folder: last_month.refuse_changes(series, config, reasons)
+            for last_month in (standing, last)
+            if last_month
+        }
         if key is None and is_signed(out):
             raise CannotPublish(f"{out} is signed, and the new pack wouldn't be: --sign names the key")
         cards = cards_after(out) if config.address else NO_CARDS
         manifest = last.manifest if last else None
         chain = partial(previous_of, manifest, series), _changes_after(standing, last), versions_after(earlier)
-        sets = next((it.sets for it in (last, standing) if it and it.sets.rows), NO_SETS)
-        core = next((it.core for it in (last, standing) if it and it.core.rows), NO_CORE)
-        seasonal = next((it.seasonal for it in (last, standing) if it and it.seasonal.is_there), NO_SEASONAL)
+        sets = next(
+            (last_month.sets for last_month in (last, standing) if last_month and last_month.sets.rows), NO_SETS
+        )
+        core = next(
+            (last_month.core for last_month in (last, standing) if last_month and last_month.core.rows), NO_CORE
+        )
+        seasonal = next(
+            (last_month.seasonal for last_month in (last, standing) if last_month and last_month.seasonal.is_there),
+            NO_SEASONAL,
+        )
         pack = Pack(
             series, config, *chain, announced_in(earlier), signed_by(key, config.agency), cards, sets,
             [*map(kept_quality, earlier)], core, [read_kept_averages(it, config.minor_digits) for it in earlier], seasonal,

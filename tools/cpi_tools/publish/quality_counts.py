@@ -103,23 +103,23 @@ def _list_seen(
 
 def counts_of_office(office: StoredOffice, published: Sequence[Listed]) -> Iterator[Counts]:
     """The counts of each release that is published and has a table with rows, in the order in which they were published."""
-    moments = {(int(it.month.replace("-", "")), it.revision): it.moment for it in published}
-    releases = [it for it in office.releases() if it[:2] in moments and office.titles(it)]
+    moments = {(int(listing.month.replace("-", "")), listing.revision): listing.moment for listing in published}
+    releases = [release for release in office.releases() if release[:2] in moments and office.titles(release)]
     assignments, plans = office.assignments(), {plan.year: plan.places for plan in office.plans()}
-    for release in sorted(releases, key=lambda it: (moments[it[:2]], it[:2])):
+    for release in sorted(releases, key=lambda release: (moments[release[:2]], release[:2])):
         own = [slot for slot in assignments if slot.first_month <= release.month <= slot.last_month]
         yield counts_of_release(office, release, own, plans[release.month // 100])
 
 
-def shown_cells(found: Iterable[Counts], least: int, known: Choices) -> list[Cell]:
+def shown_cells(counts: Iterable[Counts], least: int, known: Choices) -> list[Cell]:
     """The rows of releases in the order in which they were published, by month and revision; known releases show the
     same figures as before."""
     choices = dict(known)
     cells = list[Cell]()
-    for it in found:
-        if it.of not in choices:
-            choices[it.of] = choice_of(it.outlets, least, choices.values())
-        cells += it.cells(choices[it.of])
+    for count in counts:
+        if count.of not in choices:
+            choices[count.of] = choice_of(count.outlets, least, choices.values())
+        cells += count.cells(choices[count.of])
     return sorted(cells, key=lambda cell: cell[:3])
 
 

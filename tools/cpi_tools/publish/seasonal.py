@@ -66,35 +66,35 @@ class Exchange(NamedTuple):
     once: Mapping[str, bytes]
 
 
-def exchange_of(found: Sequence[Levels]) -> Exchange:
+def exchange_of(levels: Sequence[Levels]) -> Exchange:
     """The files of some series."""
-    anew = {LEVELS: _table(found), METAFILE: "".join(f"{it.code}\n" for it in found).encode()}
-    anew |= {f"{it.code}.dat": "".join(_date_lines(it)).encode() for it in found}
-    return Exchange(anew, {f"{it.code}.spc": _specification(it).encode() for it in found})
+    anew = {LEVELS: _table(levels), METAFILE: "".join(f"{level.code}\n" for level in levels).encode()}
+    anew |= {f"{level.code}.dat": "".join(_date_lines(level)).encode() for level in levels}
+    return Exchange(anew, {f"{level.code}.spc": _specification(level).encode() for level in levels})
 
 
-def _table(found: Sequence[Levels]) -> bytes:
+def _table(levels: Sequence[Levels]) -> bytes:
     """A row for each month, a column for each series."""
     text = io.StringIO()
     rows = csv.writer(text, lineterminator="\n")
-    rows.writerow(["month", *(it.code for it in found)])
-    for month in sorted({month for it in found for month in it.texts}):
-        rows.writerow([f"{month}-01", *(it.texts.get(month, "") for it in found)])
+    rows.writerow(["month", *(level.code for level in levels)])
+    for month in sorted({month for level in levels for month in level.texts}):
+        rows.writerow([f"{month}-01", *(level.texts.get(month, "") for level in levels)])
     return text.getvalue().encode()
 
 
-def _date_lines(it: Levels) -> Iterator[str]:
+def _date_lines(levels: Levels) -> Iterator[str]:
     """The lines of a series with year, month and level."""
-    for month, level in sorted(it.texts.items()):
+    for month, level in sorted(levels.texts.items()):
         yield f"{month[:4]} {int(month[5:])} {level}\n"
 
 
-def _specification(it: Levels) -> str:
+def _specification(levels: Levels) -> str:
     """A specification to begin with: the program chooses logarithms, a model and outliers."""
-    title = "".join(" " if sign in "\"'\\{}" else sign for sign in f"{it.code} {it.title}")
+    title = "".join(" " if sign in "\"'\\{}" else sign for sign in f"{levels.code} {levels.title}")
     plain = title.encode("ascii", "replace").decode()[:MOST_TITLE].rstrip()
-    method, saves = ("seats", "s11") if it.method == SEATS else ("x11", "d11")
-    return SPEC.format(title=plain, name=it.code, method=method, saves=saves)
+    method, saves = ("seats", "s11") if levels.method == SEATS else ("x11", "d11")
+    return SPEC.format(title=plain, name=levels.code, method=method, saves=saves)
 
 
 # ==== Adjusting by R's `stl` (Debian's r-base-core), for offices without X-13ARIMA-SEATS and JDemetra+. What comes out
@@ -177,21 +177,21 @@ class NotExchanged(Fault):
 
 def levels_of(seasonal: Seasonal, series: Series, shown: Shown) -> list[Levels]:
     """The published levels of an office's list. Raises BadSeasonal."""
-    found = []
-    for it in seasonal.methods:
-        months = months_of(series, it, seasonal.folder)
-        texts = {month: shown.text(month, it.code) for month in months}
-        found.append(Levels(it.code, series.title(it.code), it.method, texts))
-    return found
+    levels = []
+    for method in seasonal.methods:
+        months = months_of(series, method, seasonal.folder)
+        texts = {month: shown.text(month, method.code) for month in months}
+        levels.append(Levels(method.code, series.title(method.code), method.method, texts))
+    return levels
 
 
-def write_exchange(seasonal: Seasonal, found: Sequence[Levels], by_stl: bool, mode: int) -> list[str]:
+def write_exchange(seasonal: Seasonal, levels: Sequence[Levels], by_stl: bool, mode: int) -> list[str]:
     """Writes the files of series into the office's folder; returns the names of files that stay as they are. With
     `by_stl`, series of that method are adjusted too. Raises Fault, and then writes nothing."""
-    exchange = exchange_of(found)
+    exchange = exchange_of(levels)
     anew = dict(exchange.anew)
     if by_stl:
-        anew[FILE] = _adjust(seasonal, {it.code: it.texts for it in found})
+        anew[FILE] = _adjust(seasonal, {level.code: level.texts for level in levels})
     stay = [name for name in exchange.once if (seasonal.folder / name).exists()]
     once = {name: data for name, data in exchange.once.items() if name not in stay}
     try:
@@ -205,7 +205,9 @@ def write_exchange(seasonal: Seasonal, found: Sequence[Levels], by_stl: bool, mo
 def _adjust(seasonal: Seasonal, levels: Mapping[str, Mapping[str, str]]) -> bytes:
     """A table of the series that `stl` adjusts. Raises NoStl or NotExchanged."""
     found = {
-        it.code: adjusted_by_stl(it, levels[it.code], seasonal.folder) for it in seasonal.methods if it.method == STL
+        method.code: adjusted_by_stl(method, levels[method.code], seasonal.folder)
+        for method in seasonal.methods
+        if method.method == STL
     }
     if not found:
         raise NotExchanged("--stl: no series of the list has the method stl")
@@ -275,15 +277,15 @@ def run(chosen: argparse.Namespace) -> int:
 def _check(config: Config, series: Series) -> str:
     """The report on adjusted series without a fault. Raises BadSeasonal."""
     assert config.seasonal
-    found = series_of_office(config.seasonal, series, Shown(series, config.reference))
-    last = min(max(it.rows) for it in found.values())
-    return f"{len(found)} adjusted series up to {last}"
+    seasonal_series = series_of_office(config.seasonal, series, Shown(series, config.reference))
+    last = min(max(series.rows) for series in seasonal_series.values())
+    return f"{len(seasonal_series)} adjusted series up to {last}"
 
 
 def _write(config: Config, series: Series, by_stl: bool, is_draft: bool) -> str:
     """The report on series that were written."""
     assert config.seasonal
-    found = levels_of(config.seasonal, series, Shown(series, config.reference))
-    stay = write_exchange(config.seasonal, found, by_stl, PRIVATE if is_draft else PUBLIC)
+    levels = levels_of(config.seasonal, series, Shown(series, config.reference))
+    stay = write_exchange(config.seasonal, levels, by_stl, PRIVATE if is_draft else PUBLIC)
     kept = f"; {write_count(len(stay), 'specification')} of X-13 stayed" if stay else ""
-    return f"{len(found)} series up to {series.every[-1]}{kept}"
+    return f"{len(levels)} series up to {series.every[-1]}{kept}"

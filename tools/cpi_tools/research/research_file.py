@@ -209,7 +209,7 @@ class _Reader:
 
     def _regions(self) -> dict[str, list[tuple[int, int]]]:
         """The outlets of each region, no outlet in two."""
-        found, table = dict[str, list[tuple[int, int]]](), self._toml.words[REGIONS]
+        regions, table = dict[str, list[tuple[int, int]]](), self._toml.words[REGIONS]
         if not isinstance(table, dict) or not table:
             self._refuse(
                 (REGIONS,), f'{REGIONS} is {table!r}: wanted lines like north = ["1-199", 250] below [{REGIONS}]'
@@ -221,9 +221,9 @@ class _Reader:
                 )
             if not isinstance(outlets, list) or not outlets:
                 self._refuse((REGIONS, name), f'{name} is {outlets!r}: wanted outlets, such as ["1-199", 250]')
-            found[name] = [self._range(name, it) for it in outlets]
-        self._test_apart(found)
-        return found
+            regions[name] = [self._range(name, outlet) for outlet in outlets]
+        self._test_apart(regions)
+        return regions
 
     def _range(self, name: str, value: object) -> tuple[int, int]:
         """The first and the last number of some outlets."""
@@ -299,7 +299,7 @@ def make_research_rows(office: StoredOffice, releases: Mapping[str, Release], ru
             of_periods += len(quotes)
             continue
         codes = places[release.month // 100]
-        planned = [it for it in quotes if it.item in codes]
+        planned = [quote for quote in quotes if quote.item in codes]
         unplanned += len(quotes) - len(planned)
         for it in planned:
             code = codes[it.item][: rules.depth] if rules.depth else it.item
@@ -376,24 +376,26 @@ def make_content(rows: Sequence[Sequence[object]]) -> bytes:
     return text.getvalue().encode()
 
 
-def write_file(found: ResearchRows, rules: Rules, given_to: str, out: Path, record: Path, now: int) -> None:
+def write_file(research_rows: ResearchRows, rules: Rules, given_to: str, out: Path, record: Path, now: int) -> None:
     """Writes the file, with mode 0600, and its row of the record; `now` is in seconds since 1970. Raises Fault if there is
     a file already, or nothing to write."""
     if os.path.lexists(out):
         raise _is_there(out)
-    if not found.rows:
-        raise Fault(f"no row is left by the rules of {rules.toml.path}: {_say_left_out(found)}; nothing was written")
-    content, left_out = make_content(found.rows), found.left_out
+    if not research_rows.rows:
+        raise Fault(
+            f"no row is left by the rules of {rules.toml.path}: {_say_left_out(research_rows)}; nothing was written"
+        )
+    content, left_out = make_content(research_rows.rows), research_rows.left_out
     made = datetime.fromtimestamp(now, timezone.utc).strftime("%Y-%m-%dT%H:%M:%SZ")
     sums = hashlib.sha256(content).hexdigest(), rules.sha256
-    counts = len(found.rows), found.outlets, left_out.of_cells + left_out.unplanned
+    counts = len(research_rows.rows), research_rows.outlets, left_out.of_cells + left_out.unplanned
     with new_room(".cpi-research-", out.parent) as room:
         new = room / "file"
         with os.fdopen(os.open(new, os.O_WRONLY | os.O_CREAT | os.O_EXCL, 0o600), "wb") as file:
             file.write(content)
             file.flush()
             os.fsync(file.fileno())
-        entry = Entry(made, given_to, out.name, *sums, found.months[0], found.months[-1], *counts)
+        entry = Entry(made, given_to, out.name, *sums, research_rows.months[0], research_rows.months[-1], *counts)
         add_entry(record, entry, lambda: _put_in_place(new, out))
 
 
@@ -409,9 +411,9 @@ def _is_there(out: Path) -> Fault:
     return Fault(f"{out} is there already: wanted the name of a new file")
 
 
-def _say_left_out(found: ResearchRows) -> str:
+def _say_left_out(research_rows: ResearchRows) -> str:
     """The number of quotes that aren't in a file, and why."""
-    it = found.left_out
+    it = research_rows.left_out
     return (
         f"{write_count(it.of_cells, 'quote')} in {write_count(it.cells, 'small cell')},"
         f" {it.of_periods:,} of periods that aren't whole and {it.unplanned:,} of items outside the index left out"
@@ -482,13 +484,13 @@ def run(chosen: argparse.Namespace) -> int:
     with Progress("cpi-tools research-file") as progress:
         progress.now("prices")
         try:
-            found = read_rows(Cpi(chosen.program), chosen.db, chosen.at, rules)
-            write_file(found, rules, chosen.given_to, chosen.out, chosen.record, now)
+            rows = read_rows(Cpi(chosen.program), chosen.db, chosen.at, rules)
+            write_file(rows, rules, chosen.given_to, chosen.out, chosen.record, now)
         except OSError as fault:
             raise Fault(because_of(fault)) from fault
         except sqlite3.Error as fault:
             raise Fault(f"{chosen.db} can't be read: {fault}") from fault
-    months = f"{found.months[0]} to {found.months[-1]}"
-    print(f"{chosen.out}: {write_count(len(found.rows), 'row')} of {write_count(found.outlets, 'outlet')}, {months}")
-    print(f"{chosen.out}: {_say_left_out(found)}")
+    months = f"{rows.months[0]} to {rows.months[-1]}"
+    print(f"{chosen.out}: {write_count(len(rows.rows), 'row')} of {write_count(rows.outlets, 'outlet')}, {months}")
+    print(f"{chosen.out}: {_say_left_out(rows)}")
     return 0

@@ -79,12 +79,12 @@ def _what_to_do(text: str) -> Message:
 
 def _odd_values(store: PriceStore, minor: int) -> Mapping[int, Message]:
     """The values that may be codes, and the reason for each."""
-    found = {
+    messages = {
         value: message("it occurs in series of {count} items", count=whole(count))
         for value, count in store.values_of_many(MANY_ITEMS)
     }
     nines = message("it consists only of nines")
-    return {**found, **{value: nines for value in store.values() if is_nines(value, minor)}}
+    return {**messages, **{value: nines for value in store.values() if is_nines(value, minor)}}
 
 
 def is_nines(value: int, minor: int) -> bool:
@@ -135,10 +135,10 @@ class _Medians:
         self.far: set[tuple[str, int]] = set()
         """Items with such a value."""
         alone: list[tuple[str, str, int]] = []
-        for (item, aggregate), own in groupby(store.list_values(), key=lambda it: (it.item, it.aggregate)):
+        for (item, aggregate), own in groupby(store.list_values(), key=lambda value: (value.item, value.aggregate)):
             values = Counted([(it.minor, it.times) for it in own])
             self._by_aggregate.setdefault(aggregate, {})[item] = values.median()
-            for value in (it for it in values if it in odd):
+            for value in (value for value in values if value in odd):
                 other = values.median_without(value)
                 if other is None:
                     alone.append((item, aggregate, value))
@@ -163,14 +163,14 @@ def median(values: Sequence[int]) -> int:
 
 def _far_odd(store: PriceStore, odd: Mapping[int, Message], medians: _Medians) -> Iterator[Doubted]:
     """The prices of odd values that are far from the others, or have no others."""
-    for it in store.figures_of(medians.far):
-        yield Doubted(it.number, odd[it.minor])
+    for figure in store.figures_of(medians.far):
+        yield Doubted(figure.number, odd[figure.minor])
 
 
 def _far_firsts(store: PriceStore, medians: _Medians) -> Iterator[Doubted]:
     """The first prices of new series that are far from the first prices of their item, or, if it has no others, from
     the other items of their aggregate."""
-    for (item, aggregate), found in groupby(store.firsts(), key=lambda it: (it.item, it.aggregate)):
+    for (item, aggregate), found in groupby(store.firsts(), key=lambda figure: (figure.item, figure.aggregate)):
         firsts = [*found]
         values = sorted(it.minor for it in firsts)
         for it in firsts:

@@ -77,7 +77,7 @@ def odd_columns(cpi: Cpi, rows: Sequence[Sent]) -> list[str]:
     row."""
     trials = [[*try_fields(row)] for row in rows]
     read = iter(are_read(cpi, [fields for own in trials for _, fields in own]))
-    found = []
+    columns = []
     for row, own in zip(rows, trials):
         can: dict[str, bool] = {}
         for name, _ in own:
@@ -85,8 +85,8 @@ def odd_columns(cpi: Cpi, rows: Sequence[Sent]) -> list[str]:
             # (of the two trials of a mark one is enough)
             can[name] = is_read or (name == "mark" and can.get(name, False))
         odd = next((name for name, is_read in can.items() if not is_read), "")
-        found.append(row.name_column(odd) if odd else "")
-    return found
+        columns.append(row.name_column(odd) if odd else "")
+    return columns
 
 
 Rows = dict[str, list[Sent]]
@@ -99,9 +99,9 @@ def faulty_cells(cpi: Cpi, plan: Bundle, reply: Reply, items: Collection[str]) -
     rows: Rows = defaultdict(list)
     for row in plan.rows:
         rows[row.word].append(row)
-    found = [*cells_of_fault(cpi, rows, reply, items)] if reply["refused"] == 44 else []
+    cells = [*cells_of_fault(cpi, rows, reply, items)] if reply["refused"] == 44 else []
     first = plan.rows[0]
-    return found or [first.origin.at(first.own)]
+    return cells or [first.origin.at(first.own)]
 
 
 def unreadable(cpi: Cpi, plan: Bundle) -> list[tuple[Sent, str]]:
@@ -186,7 +186,7 @@ def moments_of(cpi: Cpi, texts: Iterable[str], zone: str) -> dict[str, int]:
     """
     civil = sorted(text for text in set(texts) if "T" in text)
     months = [f"{year:04}-{month:02}" for year in range(2000, 2200) for month in range(1, 13)]
-    found: dict[str, int] = {}
+    moments: dict[str, int] = {}
     for start in range(0, len(civil), len(months)):
         asked = dict(zip(months, civil[start : start + len(months)]))
         sent = [record(0, DESK, "calendar", it, text, LAST_MOMENT, LAST_MOMENT) for it, text in asked.items()]
@@ -194,8 +194,8 @@ def moments_of(cpi: Cpi, texts: Iterable[str], zone: str) -> dict[str, int]:
             clock = room / "clock.db"
             cpi.replay(sent, db=clock, zone=zone)
             with stored_office(clock) as stored:
-                found.update((asked[month_text(it.month)], it.opens) for it in stored.calendar())
-    return found
+                moments.update((asked[month_text(it.month)], it.opens) for it in stored.calendar())
+    return moments
 
 
 # ---- what became of it

@@ -85,8 +85,14 @@ def known_of(stored: StoredOffice) -> Known:
         items={it.code: tuple(map(str, it)) for it in stored.items()},
         outlets={str(number): name for number, name in stored.outlets().items()},
         places=dict.fromkeys(
-            Place(str(it.collector), str(it.slot), str(it.outlet), it.item, *map(month_text, it[4:6]))
-            for it in stored.assignments()
+            Place(
+                str(assignment.collector),
+                str(assignment.slot),
+                str(assignment.outlet),
+                assignment.item,
+                *map(month_text, assignment[4:6]),
+            )
+            for assignment in stored.assignments()
         ),
         given=frozenset(Place(*map(str, row)) for row in rows_of_series(held)),
         windows={month_text(it.month): window_of(*it[1:]) for it in stored.calendar()},

@@ -217,16 +217,16 @@ class OfficeFiles:
                 self.taken.problems.append(problem_of(SheetFault(row.at("revision"), because, do)))
 
     def _by_month(self, name: str) -> dict[str, list[Row]]:
-        found: dict[str, list[Row]] = defaultdict(list)
+        lists: dict[str, list[Row]] = defaultdict(list)
         for row in self._rows(name):
-            found[row["month"]].append(row)
-        return found
+            lists[row["month"]].append(row)
+        return lists
 
     def _calendar_rows(self) -> dict[str, Row]:
         """The calendar's row for each month; two rows that differ are a problem."""
-        found: dict[str, Row] = {}
+        rows: dict[str, Row] = {}
         for row in self._rows("calendar"):
-            above = found.setdefault(row["month"], row)
+            above = rows.setdefault(row["month"], row)
             if above is not row:
                 origin = row.at("month")
                 named = {"row": above.origin.row, "month": of_others(row["month"])}
@@ -237,7 +237,7 @@ class OfficeFiles:
                     because = message("row {row} also has the month {month}, but with another window", **named)
                     fault = SheetFault(origin, because, message("keep the one that applies"))
                     self.taken.problems.append(problem_of(fault))
-        return found
+        return rows
 
     # ---- what an office has already
 
@@ -254,7 +254,7 @@ class OfficeFiles:
         count = self.taken.passed_over
         count["handovers"] = sum(map(self._known.has_handover, self._rows("handovers")))
         for own in self._releases.values():
-            count["releases"] += sum(self._is_frozen(it, turn) for turn, it in by_revision(own))
+            count["releases"] += sum(self._is_frozen(row, turn) for turn, row in by_revision(own))
         for month, row in self._windows.items():
             count["calendar"] += self._is_same(self._window(month, row), self._known.windows.get(month))
 
@@ -271,7 +271,7 @@ class OfficeFiles:
     def _register(self, word: str, name: str) -> Iterator[Sent]:
         columns = FIELDS[word]
         return (
-            Sent([word, *(row[it] for it in columns)], row.origin, row.name_columns(columns))
+            Sent([word, *(row[column] for column in columns)], row.origin, row.name_columns(columns))
             for row in self._rows(name)
         )
 
@@ -291,23 +291,25 @@ class OfficeFiles:
         one."""
         named = {(row["collector"], row["slot"]) for row in self._rows("series")}
         named |= {(row["to"], row["to_slot"]) for row in self._rows("handovers")}
-        named |= {(it.collector, it.slot) for it in self._known.places}
+        named |= {(place.collector, place.slot) for place in self._known.places}
         standing: dict[tuple[str, ...], list[str]] = defaultdict(list)
-        for it in sorted({*self._known.places, *self._known.given}, key=lambda it: (it.collector, int(it.slot))):
-            standing[it.collector, it.outlet, it.item, it.first, it.last].append(it.slot)
+        for place in sorted(
+            {*self._known.places, *self._known.given}, key=lambda place: (place.collector, int(place.slot))
+        ):
+            standing[place.collector, place.outlet, place.item, place.first, place.last].append(place.slot)
         last: dict[str, int] = defaultdict(int)
-        found = []
+        slots = []
         for row in self._rows("series"):
             collector = row["collector"]
             same = standing[tuple(row[it] for it in SHEETS["series"].needed)]
             if row["slot"] or same:
-                found.append(row["slot"] or same.pop(0))
+                slots.append(row["slot"] or same.pop(0))
                 continue
             last[collector] += 1
             while (collector, str(last[collector])) in named:
                 last[collector] += 1
-            found.append(str(last[collector]))
-        return found
+            slots.append(str(last[collector]))
+        return slots
 
     def _assign(self, slots: Sequence[str]) -> SentRows:
         """The series that the office doesn't have already; the others are counted."""
@@ -360,14 +362,14 @@ class OfficeFiles:
         if missing := [*missing_columns(sheet, cells.needed)]:
             return [*cells.faults.all(), *missing]
         series = [
-            Place(row["collector"], slot, *(row[it] for it in ("outlet", "item", "first", "last")))
+            Place(row["collector"], slot, *(row[text] for text in ("outlet", "item", "first", "last")))
             for row, slot in zip(self._rows("series"), slots)
         ]
         # (what was handed over since isn't the slot's any more, as long as it was given to it)
-        series = [it for it in series if it not in self._known.given]
+        series = [place for place in series if place not in self._known.given]
         handed = sorted(self._rows("handovers"), key=lambda row: row["month"])
         places = [*self._known.places, *series]
-        cells.place(places, [it for it in handed if not self._known.has_handover(it)])
+        cells.place(places, [row for row in handed if not self._known.has_handover(row)])
         store = self._store
         store.fill_rows(itertools.chain.from_iterable(cells.make_rows(store)))
         if options.rule.is_any:
@@ -387,7 +389,7 @@ class OfficeFiles:
     def _look_for_codes(self, cells: PriceCells) -> None:
         """Notes the values that might not be prices. A series of the office, or one that was handed over, has a last
         price, with which the program compares."""
-        old = {(it.collector, it.slot) for it in (*self._known.places, *self._known.given)}
+        old = {(place.collector, place.slot) for place in (*self._known.places, *self._known.given)}
         old |= {(row["to"], row["to_slot"]) for row in self._rows("handovers")}
         codes = {row["item"]: row["code"] for row in self._rows("places")}
         codes.update({row["item"]: row["code"] for row in self._rows("items") if row["code"]})
@@ -430,7 +432,7 @@ class OfficeFiles:
 
     def _month(self, month: str, handed: Sequence[Row], releases: Sequence[Row]) -> Iterator[Bundle]:
         """A month's windows, hand-overs, quotes and freezes, revision by revision, and then the later quotes."""
-        new = [it for it in handed if not self._known.has_handover(it)]
+        new = [row for row in handed if not self._known.has_handover(row)]
         moved = make_bundles(0, DESK, (sent_handover(row) for row in new))
         own, now = self._windows.get(month), self._known.windows.get(month)
         first = 1
@@ -510,11 +512,11 @@ def sent_handover(row: Row) -> Sent:
 
 def by_revision(releases: Sequence[Row]) -> list[tuple[int, Row]]:
     """The releases of a month in their order, each with its revision: the one in its row, or else the next one."""
-    found: list[tuple[int, Row]] = []
-    for row in sorted(releases, key=lambda it: it["revision"]):
-        turn = found[-1][0] + 1 if found else 1
-        found.append((int(row["revision"]) if is_revision(row["revision"]) else turn, row))
-    return found
+    revisions: list[tuple[int, Row]] = []
+    for row in sorted(releases, key=lambda release: release["revision"]):
+        turn = revisions[-1][0] + 1 if revisions else 1
+        revisions.append((int(row["revision"]) if is_revision(row["revision"]) else turn, row))
+    return revisions
 
 
 def told_marks(differ: Differ) -> Message:

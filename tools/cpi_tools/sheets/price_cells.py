@@ -176,18 +176,18 @@ class PriceCells:
     def _months_of_columns(self, columns: Columns, ignored: Collection[str]) -> list[tuple[str, str, str]]:
         """The columns of a wide sheet that are months: name, name as written, and month. A column that is neither a
         month nor a known column is a problem."""
-        found: dict[str, tuple[str, str, str]] = {}
+        months: dict[str, tuple[str, str, str]] = {}
         known = {*columns.needed, *columns.others}
         for column, written in zip(self._sheet.columns, self._sheet.written):
             month = month_of(written)
             if column in ignored or not column:
                 continue
-            if month and self.is_wide and month in found:
-                two = {"one": of_others(found[month][1]), "other": of_others(written)}
+            if month and self.is_wide and month in months:
+                two = {"one": of_others(months[month][1]), "other": of_others(written)}
                 both = message('"{one}" and "{other}" are both the month {month}', **two, month=of_others(month))
                 self._tell_column(written, both, message("keep only one of the two columns"))
             elif month and self.is_wide:
-                found[month] = (column, written, month)
+                months[month] = (column, written, month)
             elif month:
                 because = message(
                     "{text} is a month, but a sheet with a column {column} has a row for each price",
@@ -203,12 +203,12 @@ class PriceCells:
                     words=of_others(f'--ignore "{written}"'),
                 )
                 self._tell_column(written, told_no_month(written), do)
-        if found and "month" in self._sheet.columns and "month" not in ignored:
+        if months and "month" in self._sheet.columns and "month" not in ignored:
             column = of_others("month")
             because = message("a sheet with a column for each month can't have a column {column}", column=column)
             do = message("delete the column {column}, or write each price in a row of its own", column=column)
             self._tell_column("month", because, do)
-        return [*found.values()]
+        return [*months.values()]
 
     def _tell_column(self, column: str, because: Message, do: Message) -> None:
         self.faults.add(SheetFault(self.heading.at(column), because, do))
@@ -222,13 +222,13 @@ class PriceCells:
         """Each text that was read as a month, once for each column, except texts like `2026-01`."""
         of_heads = [MonthRead(self._sheet.file, written, written, month) for _, written, month in self._months]
         of_rows = [MonthRead(self._sheet.file, "month", text, month) for text, month in self._read.items()]
-        return [it for it in (*of_heads, *of_rows) if it.month not in ("", it.text)]
+        return [head for head in (*of_heads, *of_rows) if head.month not in ("", head.text)]
 
     def _cells(self, row: Row) -> Iterator[Cell]:
         """The cells of a row that have a price or a reason."""
         if self.is_wide:
             cells = ((month, written, row[column]) for column, written, month in self._months)
-            yield from (Cell(row, it, text, name, name) for it, name, text in cells if text.strip() not in EMPTY)
+            yield from (Cell(row, cell, text, name, name) for cell, name, text in cells if text.strip() not in EMPTY)
         elif month := self._month(row):
             names = row.names
             yield Cell(row, month, row["value"], names.get("month", "month"), names.get("value", "value"))
@@ -247,17 +247,17 @@ class PriceCells:
 
     def place(self, places: Sequence[Place], handed: Sequence[Row]) -> None:
         """Notes the outlet and item of each slot, and the months from which other slots take over by hand-overs."""
-        held = {(it.collector, it.slot): Held(it) for it in places}
+        held = {(place.collector, place.slot): Held(place) for place in places}
         for row in handed:
             former = held.get((row["collector"], row["slot"]))
             if former:
                 new = former.place._replace(collector=row["to"], slot=row["to_slot"], first=row["month"])
                 held[row["collector"], row["slot"]] = former._replace(until=row["month"])
                 held[row["to"], row["to_slot"]] = Held(new)
-        self._of_slots = {slot: it.place for slot, it in held.items()}
-        for it in held.values():
-            of = it.place.outlet, it.place.item
-            self._places[of] = (*self._places.get(of, ()), it)
+        self._of_slots = {slot: holding.place for slot, holding in held.items()}
+        for holding in held.values():
+            of = holding.place.outlet, holding.place.item
+            self._places[of] = (*self._places.get(of, ()), holding)
 
     @property
     def slots(self) -> Mapping[tuple[str, str], Place]:
@@ -272,7 +272,11 @@ class PriceCells:
         if collector and row["slot"] or not self._has_items:
             return None if self._is_of_another(row) else (collector, row["slot"], "slot")
         of_series = self._places.get((cells.get("outlet", ""), cells.get("item", "")), ())
-        places = [it.place for it in of_series if it.is_in(cell.month) and collector in ("", it.place.collector)]
+        places = [
+            series.place
+            for series in of_series
+            if series.is_in(cell.month) and collector in ("", series.place.collector)
+        ]
         if len(places) == 1:
             return places[0].collector, places[0].slot, "item"
         self.faults.add(self._told_no_slot(cell, bool(of_series), bool(places)))

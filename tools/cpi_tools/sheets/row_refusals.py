@@ -192,7 +192,7 @@ def said_do(do: str) -> Message:
 
 def unread(row: Sent, column: str) -> Words:
     """The texts about a cell that the program can't read."""
-    names = [name for name, it in row.sources() if it == column]
+    names = [name for name, source in row.sources() if source == column]
     # (a cell of prices has no other column for its mark, and in a wide sheet none for its month)
     name = "value" if row.word == "quote" and "value" in names else names[0] if names else column
     text, wanted = row.text_of(name), wanted_of(row, name)

@@ -94,16 +94,16 @@ def months_of(text: str) -> list[str]:
 
 def month_of(text: str) -> str:
     """The month of a text, `2026-01`; empty if it isn't a month, or may be several."""
-    found = months_of(text)
-    return found[0] if len(found) == 1 else ""
+    months = months_of(text)
+    return months[0] if len(months) == 1 else ""
 
 
 def told_no_month(text: str) -> Message:
     """The reason why a text isn't read as a month."""
     if not text:
         return message("the cell is empty, but should contain a month")
-    if found := months_of(text):
-        return message('"{text}" may be {months}', text=cut(text), months=either([*map(of_others, found)]))
+    if months := months_of(text):
+        return message('"{text}" may be {months}', text=cut(text), months=either([*map(of_others, months)]))
     if NO_LONG_YEAR.fullmatch(text.strip()):
         return message('"{text}" may be a day or several months: it contains no year with four digits', text=cut(text))
     return message('"{text}" isn\'t a month', text=cut(text))
@@ -111,28 +111,28 @@ def told_no_month(text: str) -> Message:
 
 def _read_forms(plain: str) -> Iterator[tuple[int, int]]:
     """Year and month of each form that a text in small letters has; they may still not be a month."""
-    if found := YEAR_AND_MONTH.fullmatch(plain) or SIX_DIGITS.fullmatch(plain):
-        yield int(found[1]), int(found[2])
-    if found := MONTH_AND_YEAR.fullmatch(plain):
-        yield int(found[2]), int(found[1])
-    if found := YEAR_TO_DAY.fullmatch(plain):
-        yield from _of_day(int(found[1]), int(found[3]), int(found[4]))
-    if found := DAY_TO_YEAR.fullmatch(plain):
-        one, other, year = int(found[1]), int(found[3]), int(found[4])
+    if match := YEAR_AND_MONTH.fullmatch(plain) or SIX_DIGITS.fullmatch(plain):
+        yield int(match[1]), int(match[2])
+    if match := MONTH_AND_YEAR.fullmatch(plain):
+        yield int(match[2]), int(match[1])
+    if match := YEAR_TO_DAY.fullmatch(plain):
+        yield from _of_day(int(match[1]), int(match[3]), int(match[4]))
+    if match := DAY_TO_YEAR.fullmatch(plain):
+        one, other, year = int(match[1]), int(match[3]), int(match[4])
         yield from _of_day(year, one, other)
         yield from _of_day(year, other, one)
-    if found := NAME_AND_YEAR.fullmatch(plain):
-        year = int(found[2])
-        if len(found[2]) == 4 or year <= LAST_SHORT_YEAR:
-            yield from ((year + 2000 * (year <= LAST_SHORT_YEAR), month) for month in NAMED.get(found[1], ()))
-    if found := YEAR_AND_NAME.fullmatch(plain):
-        yield from ((int(found[1]), month) for month in NAMED.get(found[2], ()))
-    if found := DAY_AND_NAME.fullmatch(plain):
-        for month in NAMED.get(found[2], ()):
-            yield from _of_day(int(found[3]), month, int(found[1]))
-    if found := NAME_AND_DAY.fullmatch(plain):
-        for month in NAMED.get(found[1], ()):
-            yield from _of_day(int(found[3]), month, int(found[2]))
+    if match := NAME_AND_YEAR.fullmatch(plain):
+        year = int(match[2])
+        if len(match[2]) == 4 or year <= LAST_SHORT_YEAR:
+            yield from ((year + 2000 * (year <= LAST_SHORT_YEAR), month) for month in NAMED.get(match[1], ()))
+    if match := YEAR_AND_NAME.fullmatch(plain):
+        yield from ((int(match[1]), month) for month in NAMED.get(match[2], ()))
+    if match := DAY_AND_NAME.fullmatch(plain):
+        for month in NAMED.get(match[2], ()):
+            yield from _of_day(int(match[3]), month, int(match[1]))
+    if match := NAME_AND_DAY.fullmatch(plain):
+        for month in NAMED.get(match[1], ()):
+            yield from _of_day(int(match[3]), month, int(match[2]))
 
 
 def _of_day(year: int, month: int, day: int) -> Iterator[tuple[int, int]]:
@@ -177,8 +177,8 @@ class Numbers:
             if "." in plain:
                 return None
             plain = plain.replace(self.decimal, ".")
-        if found := GROUPED.fullmatch(plain):
-            plain = found[1].replace(found[2], "") + (found[3] or "")
+        if match := GROUPED.fullmatch(plain):
+            plain = match[1].replace(match[2], "") + (match[3] or "")
         return Fraction(plain) if PLAIN.fullmatch(plain) else None
 
     def told_none(self, text: str) -> Message:

@@ -97,9 +97,11 @@ def write_check(out: Path, name: str, onto: Optional[Path], result: TakenIn, tel
     """Writes `problems.csv` and `report.html`, and `weights.csv` if weights were scaled. The page is in the language of a
     teller, the files are in English."""
     out.mkdir(mode=0o700, parents=True, exist_ok=True)
-    problems = (("problem", *it.origin, it.number, it.because, it.do) for it in result.judged.problems)
-    doubts = (("doubt", *it.origin, "", it.because, it.do) for it in result.taken.doubts.cells)
-    warnings = (("warning", *it.origin, "", it.because, it.do) for it in result.taken.warnings)
+    problems = (
+        ("problem", *problem.origin, problem.number, problem.because, problem.do) for problem in result.judged.problems
+    )
+    doubts = (("doubt", *cell.origin, "", cell.because, cell.do) for cell in result.taken.doubts.cells)
+    warnings = (("warning", *warning.origin, "", warning.because, warning.do) for warning in result.taken.warnings)
     heads = ("kind", "file", "row", "column", "number", "because", "do")
     write_rows(out / "problems.csv", heads, itertools.chain(problems, doubts, warnings))
     (out / "weights.csv").unlink(missing_ok=True)
@@ -145,4 +147,4 @@ def command(files: Sequence[Path], zone: str, onto: Optional[Path]) -> str:
     """The commands that send the records to an office."""
     db = shlex.quote(str(onto or "office.db"))
     clock = "" if zone == "UTC0" else f" --zone {shlex.quote(zone)}"
-    return "\n".join(f"cpi replay{clock} --db {db} < {shlex.quote(str(it))}" for it in files)
+    return "\n".join(f"cpi replay{clock} --db {db} < {shlex.quote(str(file))}" for file in files)

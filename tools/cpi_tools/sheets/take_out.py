@@ -30,10 +30,10 @@ Held = dict[Series, list[Assignment]]
 
 def held_by(stored: StoredOffice) -> Held:
     """The holder of each series, one after the other."""
-    found: Held = {}
-    for it in stored.assignments():
-        found.setdefault(it.series, []).append(it)
-    return found
+    holding: Held = {}
+    for assignment in stored.assignments():
+        holding.setdefault(assignment.series, []).append(assignment)
+    return holding
 
 
 # ---- what was registered
@@ -46,7 +46,7 @@ def rows_of_series(held: Held) -> Iterator[Line]:
         for own in held.values()
         for first in own[:1]
     ]
-    yield from ((*it[:4], month_text(it[4]), month_text(it[5])) for it in sorted(rows))
+    yield from ((*row[:4], month_text(row[4]), month_text(row[5])) for row in sorted(rows))
 
 
 def rows_of_handovers(held: Held) -> Iterator[Line]:
@@ -103,8 +103,8 @@ def rows_of_prices(stored: StoredOffice, held: Held) -> Iterator[Line]:
     """Every quote, by month and revision."""
     series = {(it.collector, it.slot): it.series for own in held.values() for it in own}
     releases = stored.releases()
-    for month in sorted({*stored.months_of_quotes(), *(it.month for it in releases)}):
-        own = [it for it in releases if it.month == month]
+    for month in sorted({*stored.months_of_quotes(), *(release.month for release in releases)}):
+        own = [release for release in releases if release.month == month]
         for revision, slot, quote in quotes_of(stored, month, own, held, series):
             mark, value = told_quote(quote)
             confirm = "confirm" if mark in (PRICE, COMPARABLE) else ""
@@ -135,8 +135,8 @@ def quotes_of(
 
 def slot_in(own: Sequence[Assignment], month: int) -> Slot:
     """The slot of a series in a month."""
-    (it,) = [it for it in own if it.first_month <= month <= it.last_month]
-    return it.collector, it.slot
+    (slot,) = [assignment for assignment in own if assignment.first_month <= month <= assignment.last_month]
+    return slot.collector, slot.slot
 
 
 # ---- files

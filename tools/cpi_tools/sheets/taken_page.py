@@ -49,7 +49,7 @@ MARKS = ("price", "comparable", "other", "missing")
 def counts(judged: Judged) -> Iterable[Message]:
     """The number of accepted rows of each kind, by the words of records."""
     number = judged.taken
-    found = {
+    counts = {
         "item": message_of("{count} item", "{count} items", number["item"]),
         "outlet": message_of("{count} outlet", "{count} outlets", number["outlet"]),
         "collector": message_of("{count} collector", "{count} collectors", number["collector"]),
@@ -60,7 +60,7 @@ def counts(judged: Judged) -> Iterable[Message]:
         "quote": message_of("{count} quote", "{count} quotes", number["quote"]),
         "freeze": message_of("{count} freeze", "{count} freezes", number["freeze"]),
     }
-    return [text for word, text in found.items() if number[word]]
+    return [text for word, text in counts.items() if number[word]]
 
 
 def summary(taken: Taken, judged: Judged) -> Message:
@@ -191,22 +191,22 @@ class Page:
 
     def problems(self, judged: Judged) -> Iterable[str]:
         """The table of refused rows; problems.csv contains all of them."""
-        rows = [(it.origin, it.number, it.because, it.do) for it in judged.problems]
+        rows = [(problem.origin, problem.number, problem.because, problem.do) for problem in judged.problems]
         # t: the heading of a column: what to do
         heads = (message("where"), message("number"), message("because"), message("do"))
         if rows:
             yield self.table(message("Problems"), heads, rows, css="stacked")
 
-    def faults(self, title: Message, found: Sequence[SheetFault]) -> Iterable[str]:
+    def faults(self, title: Message, sheet_faults: Sequence[SheetFault]) -> Iterable[str]:
         """The table of warnings; problems.csv contains all of them."""
-        rows = [(it.origin, it.because, it.do) for it in found]
+        rows = [(fault.origin, fault.because, fault.do) for fault in sheet_faults]
         if rows:
             heads = (message("where"), message("because"), message("do"))
             yield self.table(title, heads, rows, css="stacked")
 
     def readings(self, taken: Taken) -> Iterable[str]:
         """The table of texts in other spellings, with the months as which they were read."""
-        rows = [(it.file, it.column, it.text, Code(it.month)) for it in taken.readings]
+        rows = [(reading.file, reading.column, reading.text, Code(reading.month)) for reading in taken.readings]
         if rows:
             heads = (message("file"), message("column"), message("text"), message("month"))
             yield self.table(message("Months as they were read"), heads, rows)

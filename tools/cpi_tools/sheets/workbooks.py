@@ -227,9 +227,9 @@ class Workbook:
 
     def texts(self, title: str, label: str) -> Texts:
         """The cells of a sheet, which `label` names. The rows raise Fault if it can't be read."""
-        found = Texts(iter(()))
-        found.rows = self._rows(title, label, found)
-        return found
+        texts = Texts(iter(()))
+        texts.rows = self._rows(title, label, texts)
+        return texts
 
     def _rows(self, title: str, label: str, found: Texts) -> Iterator[Sequence[str]]:
         """The rows of a sheet, from the first on, even if the file gives a wrong size."""
@@ -346,8 +346,8 @@ def list_names(names: Sequence[str]) -> Message:
 
 def place_of(cell: str) -> tuple[int, str]:
     """The row and the column of `AB12`."""
-    found = re.fullmatch(r"([A-Z]+)([0-9]+)", cell)
-    return (int(found[2]), found[1]) if found else (0, cell)
+    match = re.fullmatch(r"([A-Z]+)([0-9]+)", cell)
+    return (int(match[2]), match[1]) if match else (0, cell)
 
 
 def letters_of(column: int) -> str:

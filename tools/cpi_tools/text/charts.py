@@ -173,7 +173,7 @@ def lines(
     `marks`; at a break all lines start again. At least one value must be known.
     """
     months = months[-MOST_MONTHS:]
-    drawn = [it._replace(values=it.values[-MOST_MONTHS:]) for it in drawn]
+    drawn = [line._replace(values=line.values[-MOST_MONTHS:]) for line in drawn]
     known = [value for line in drawn for value in line.values if value is not None]
     known += [0.0] if has_zero else []
     low, high = min(known), max(known)
@@ -184,7 +184,7 @@ def lines(
     places = [frame.x(at - 0.5) for at in marked]
     path = "".join(f"M{x:.1f} {TOP}V{HEIGHT - FOOT}" for x in places)
     parts = [frame.axes(), *([f'<path class="break" d="{path}"/>'] if path else [])]
-    for line in sorted(drawn, key=lambda it: it.kind, reverse=True):
+    for line in sorted(drawn, key=lambda line: line.kind, reverse=True):
         parts.append(f'<path class="line {line.kind}" d="{_path(frame, line, begins)}"/>')
         parts += _last(frame, line, places) if line.last else []
     return svg(picture, parts, months=months)
@@ -215,7 +215,7 @@ def _last(frame: Frame, line: Line, places: Collection[float]) -> Iterator[str]:
     """A dot at the last value of a line, and the value; `places` are the places of marks, across which no value is
     written."""
     at, value = _last_of(line.values)
-    earlier = (it for it in reversed(line.values[:at]) if it is not None)
+    earlier = (value for value in reversed(line.values[:at]) if value is not None)
     before = next((it for it in earlier if it != value), value)
     x, y = frame.x(at), frame.y(value)
     # (above where the line came from below, below where it came from above; within the picture)
@@ -229,7 +229,7 @@ def _last(frame: Frame, line: Line, places: Collection[float]) -> Iterator[str]:
 
 def _last_of(values: Sequence[Optional[float]]) -> tuple[int, float]:
     """The last known value, and its place; at least one value is known."""
-    return next((at, it) for at in range(len(values) - 1, -1, -1) if (it := values[at]) is not None)
+    return next((at, value) for at in range(len(values) - 1, -1, -1) if (value := values[at]) is not None)
 
 
 def _parts(values: Sequence[Optional[float]], begins: Collection[int]) -> Iterator[list[tuple[int, float]]]:
@@ -293,8 +293,8 @@ class _Sizes(dict[float, str]):
 
     def __missing__(self, value: float) -> str:
         (top, foot), wide = sorted((self._frame.y(value), self._frame.y(0))), self._wide
-        found = self[value] = f"{top:.1f}h{wide:.1f}v{max(foot - top, 0.6):.1f}h-{wide:.1f}z"
-        return found
+        text = self[value] = f"{top:.1f}h{wide:.1f}v{max(foot - top, 0.6):.1f}h-{wide:.1f}z"
+        return text
 
 
 _sizes = lru_cache(maxsize=256)(_Sizes)
@@ -350,13 +350,13 @@ class Labelled(NamedTuple):
 
 def bars_high(rows: Sequence[Labelled]) -> int:
     """The height of a picture of bars."""
-    return BARS_TOP + sum(LABEL_LINE * len(it.label) + BAR_HIGH + BAR_ROOM for it in rows)
+    return BARS_TOP + sum(LABEL_LINE * len(row.label) + BAR_HIGH + BAR_ROOM for row in rows)
 
 
 def bars(picture: Picture, rows: Sequence[Labelled]) -> Markup:
     """Bars on one scale, each below its label and its value, so that no word crosses a bar. In a language that is read
     from right to left, the picture is mirrored."""
-    scale, top, parts = track([it.value for it in rows]), BARS_TOP, list[str]()
+    scale, top, parts = track([row.value for row in rows]), BARS_TOP, list[str]()
     is_turned = picture.speech.language.dir == "rtl"
     begin, end = (WIDTH, 0) if is_turned else (0, WIDTH)
     of_label, of_value = ("label end", "label value") if is_turned else ("label", "label value end")

@@ -134,21 +134,21 @@ def numbers_in(text: str, group_sign: str = "") -> set[Fraction]:
     """The numbers, not below zero, that a text can mean: none, one, or two of them, as `1,459` does. `group_sign` is
     given if the numbers that are wanted have no decimals: then it isn't a decimal sign between groups of three
     digits."""
-    typed, found = plain(text), set[Fraction]()
+    typed, numbers = plain(text), set[Fraction]()
     if len(typed) > MOST_LETTERS:
-        return found
+        return numbers
     if group_sign and re.fullmatch(f"[1-9][0-9]{{0,2}}(?:{re.escape(group_sign)}[0-9]{{3}})+", typed):
         return {Fraction(int(typed.replace(group_sign, "")))}
     if re.fullmatch("[0-9]+", typed):
-        found.add(Fraction(int(typed)))
+        numbers.add(Fraction(int(typed)))
     for group in GROUP_SIGNS:
         grouped = f"[1-9][0-9]{{0,2}}(?:{re.escape(group)}[0-9]{{3}})+"
         if re.fullmatch(grouped, typed):
-            found.add(Fraction(int(typed.replace(group, ""))))
+            numbers.add(Fraction(int(typed.replace(group, ""))))
         for point in DECIMAL_SIGNS.replace(group, ""):
             if both := re.fullmatch(f"([0-9]+|{grouped}){re.escape(point)}([0-9]+)", typed):
-                found.add(Fraction(int(both[1].replace(group, "") + both[2]), 10 ** len(both[2])))
-    return found
+                numbers.add(Fraction(int(both[1].replace(group, "") + both[2]), 10 ** len(both[2])))
+    return numbers
 
 
 def number_text(number: Fraction) -> str:
@@ -161,7 +161,7 @@ def number_text(number: Fraction) -> str:
 
 def plain_digits(typed: str) -> str:
     """A text with the digits 0 to 9, whatever the keyboard writes, and without blanks around it."""
-    return "".join(str(unicodedata.decimal(it, it)) for it in typed.strip())
+    return "".join(str(unicodedata.decimal(letter, letter)) for letter in typed.strip())
 
 
 def key_of(typed: str) -> str:

@@ -151,10 +151,10 @@ def _file_of(code: str) -> _File:
     """The file of a language's catalogue. Raises Fault if there is none."""
     path = PO / f"{code}.po"
     try:
-        found = path.stat()
+        file = path.stat()
     except OSError as fault:
         raise Fault(f"{path}: {fault}") from fault
-    return _File(path, found.st_mtime_ns, found.st_size)
+    return _File(path, file.st_mtime_ns, file.st_size)
 
 
 @lru_cache(maxsize=8)
@@ -214,10 +214,10 @@ class Speech:
 
     def row(self, texts: Sequence[str]) -> str:
         """At least one text, with commas only: `a, b, c`."""
-        found = texts[0]
+        row = texts[0]
         for text in texts[1:]:
-            found = self.t("{before}, {after}", before=found, after=text)
-        return found
+            row = self.t("{before}, {after}", before=row, after=text)
+        return row
 
     def inner(self, title: str) -> str:
         """A title within a sentence: its first letter small, if the second is small too."""

@@ -126,38 +126,38 @@ def place_text(part: str) -> Message:
 
 def row(parts: Sequence[str]) -> Message:
     """Texts with commas between them; an empty text if there are none."""
-    found = place_text(parts[0]) if parts else sentences()
+    text = place_text(parts[0]) if parts else sentences()
     for part in parts[1:]:
         # t: a list: one text, and another one
-        found = message("{before}, {after}", before=found, after=part)
-    return found
+        text = message("{before}, {after}", before=text, after=part)
+    return text
 
 
 def part_texts(parts: Sequence[str]) -> Message:
     """Some texts with semicolons between them, since a name may have a comma in it; an empty text if there are none."""
-    found = place_text(parts[0]) if parts else sentences()
+    text = place_text(parts[0]) if parts else sentences()
     for part in parts[1:]:
         # t: a list, of texts that may have commas: one text, and another one
-        found = message("{before}; {after}", before=found, after=part)
-    return found
+        text = message("{before}; {after}", before=text, after=part)
+    return text
 
 
 def both(parts: Sequence[str]) -> Message:
     """All of some texts; an empty text if there are none."""
-    found = place_text(parts[0]) if parts else sentences()
+    text = place_text(parts[0]) if parts else sentences()
     for part in parts[1:]:
         # t: one text, and another one
-        found = message("{before} and {after}", before=found, after=part)
-    return found
+        text = message("{before} and {after}", before=text, after=part)
+    return text
 
 
 def either(parts: Sequence[str]) -> Message:
     """One of some texts; an empty text if there are none."""
-    found = place_text(parts[0]) if parts else sentences()
+    text = place_text(parts[0]) if parts else sentences()
     for part in parts[1:]:
         # t: one text, or another one
-        found = message("{before} or {after}", before=found, after=part)
-    return found
+        text = message("{before} or {after}", before=text, after=part)
+    return text
 
 
 def said_as(english: str, *parts: Message) -> Message:
@@ -227,7 +227,7 @@ def heads(*names: str) -> tuple[str, ...]:
 def columns(*names: str) -> tuple[Column, ...]:
     """Columns by their headings; `#name` is a number, `=name` a code."""
     kinds = {"#": NUMBER, "=": CODE}
-    return tuple(Column(it[1:], kinds[it[0]]) if it[0] in kinds else Column(it, TEXT) for it in names)
+    return tuple(Column(name[1:], kinds[name[0]]) if name[0] in kinds else Column(name, TEXT) for name in names)
 
 
 class Section(NamedTuple):

@@ -225,7 +225,9 @@ def cite(text: object) -> Element:
     """A message as an element, and each text that it cites in quotation marks as an element within it."""
     if isinstance(text, Worded):
         return text.__html__()
-    parts = [others(it) if at % 2 else escape(close_isolates(it)) for at, it in enumerate(QUOTED.split(str(text)))]
+    parts = [
+        others(word) if at % 2 else escape(close_isolates(word)) for at, word in enumerate(QUOTED.split(str(text)))
+    ]
     return Element(f"<bdi>{escape(QUOTE).join(parts)}</bdi>")
 
 
@@ -240,7 +242,7 @@ def apart(text: object, direction: str) -> str:
     """A text of others in words of a direction, `ltr` or `rtl`: between isolates only if it could turn other words, so
     that people who copy it copy no invisible characters."""
     if isinstance(text, Worded):
-        return text.form.format(*(apart(it, direction) for it in text.texts))
+        return text.form.format(*(apart(text, direction) for text in text.texts))
     plain = str(text)
     turns = not TURNING[direction].isdisjoint(map(unicodedata.bidirectional, plain))
     return isolate(plain) if turns else plain

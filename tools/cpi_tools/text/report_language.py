@@ -78,7 +78,7 @@ class Teller:
         if isinstance(value, Message):
             if value.is_english and self.speech.language.tag == SOURCE:
                 return value
-            return word_text(self._form(value), **{name: self._place(it) for name, it in value.places.items()})
+            return word_text(self._form(value), **{name: self._place(place) for name, place in value.places.items()})
         if isinstance(value, KINDS):
             return self._place(value)
         return value if isinstance(value, Worded) or not isinstance(value, str) else self.speech.t(value)

@@ -142,10 +142,10 @@ def a_moment(text: str) -> int:
     if re.fullmatch(r"[0-9]{1,10}", text):
         return int(text)
     try:
-        found = datetime.strptime(text.rstrip("Z"), "%Y-%m-%dT%H:%M").replace(tzinfo=timezone.utc)
+        moment = datetime.strptime(text.rstrip("Z"), "%Y-%m-%dT%H:%M").replace(tzinfo=timezone.utc)
     except ValueError as fault:
         raise argparse.ArgumentTypeError(f"{text} is no time like 2026-01-25T09:00, and no seconds") from fault
-    return int(found.timestamp())
+    return int(moment.timestamp())
 
 
 def a_slot(text: str) -> tuple[int, int]:

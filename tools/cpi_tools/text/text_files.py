@@ -83,8 +83,8 @@ class Cells(dict[str, str]):
         self._formulas = _of_run.get()
 
     def __missing__(self, text: str) -> str:
-        found = self[text] = line_of([self._formulas.cell(text)])
-        return found
+        line = self[text] = line_of([self._formulas.cell(text)])
+        return line
 
 
 def line_of(cells: Iterable[object]) -> str:

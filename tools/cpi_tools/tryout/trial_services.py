@@ -70,10 +70,10 @@ class Place(NamedTuple):
 
 def system_program(name: str) -> str:
     """The path of a system program, also in `/usr/sbin`. Raises Fault if there is none."""
-    found = shutil.which(name, path=f"{os.environ.get('PATH', '')}:/usr/sbin:/sbin")
-    if not found:
+    program = shutil.which(name, path=f"{os.environ.get('PATH', '')}:/usr/sbin:/sbin")
+    if not program:
         raise Fault(f"there is no program {name} (Debian has it in {PACKAGES.get(name, name)})")
-    return found
+    return program
 
 
 PACKAGES: Mapping[str, str] = {"nginx": "nginx-light", "certutil": "libnss3-tools"}

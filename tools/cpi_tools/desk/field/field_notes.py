@@ -284,6 +284,6 @@ def text_of(form: Mapping[str, str], name: str) -> str:
                 "At most {most} characters; this text has {count}.", most=whole(FIELDS[name]), count=whole(len(text))
             ),
         )
-    if any(unicodedata.category(it) == "Cc" and it not in "\n\t" for it in text):
+    if any(unicodedata.category(letter) == "Cc" and letter not in "\n\t" for letter in text):
         raise Refused(400, fault="form", field=name, wanted=_("A text without control characters."))
     return text

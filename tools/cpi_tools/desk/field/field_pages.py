@@ -53,33 +53,33 @@ class Row(NamedTuple):
 
 def find_notes() -> FieldNotes:
     """The notes: these views exist only if notes are on."""
-    found = desk().field
-    assert found is not None
-    return found
+    field = desk().field
+    assert field is not None
+    return field
 
 
 def rows_now(month: int, notes: list[FieldNote]) -> list[Row]:
     """Notes with what the office has of their prices, by a new copy if the latest one is older than one of them."""
     with desk().copies.latest() as copy, read_copy(copy.path) as office:
-        found = rows_of(office, month, notes)
-    if not any(row.receipt < row.note.receipt for row in found):
-        return found
+        rows = rows_of(office, month, notes)
+    if not any(row.receipt < row.note.receipt for row in rows):
+        return rows
     with desk().copies_now() as copy, read_copy(copy.path) as office:
         return rows_of(office, month, notes)
 
 
 def rows_of(office: StoredOffice, month: int, notes: list[FieldNote]) -> list[Row]:
     """Notes with what the office has of their prices."""
-    slots = {(it.collector, it.slot): it for it in office.assignments()}
+    slots = {(assignment.collector, assignment.slot): assignment for assignment in office.assignments()}
     outlets, items = office.outlets(), {it.code: it.text for it in office.items()}
     quotes, receipts = office.quotes(month), office.receipts(month)
-    found = list[Row]()
-    for it in notes:
-        at = (it.collector, it.slot)
+    rows = list[Row]()
+    for note in notes:
+        at = (note.collector, note.slot)
         place = slots.get(at)
         names = (outlets.get(place.outlet, ""), items.get(place.item, "")) if place else ("", "")
-        found.append(Row(it, *names, quotes.get(at), receipts.get(at, 0)))
-    return found
+        rows.append(Row(note, *names, quotes.get(at), receipts.get(at, 0)))
+    return rows
 
 
 @views.get("/month/<month>/field-notes")
@@ -114,23 +114,23 @@ def file(month: str) -> Response:
 
 def cells_of(month: str, row: Row) -> list[object]:
     """A note as the cells of its row."""
-    it = row.note
-    place = [it.number, it.collector, it.slot, row.outlet, row.item, it.receipt, time_text(it.at)]
-    photo = f"{month}-{it.number}.jpg" if it.has_photo else ""
-    return [*place, "yes" if it.is_sale else "", it.brand, it.quantity, it.text, photo]
+    note = row.note
+    place = [note.number, note.collector, note.slot, row.outlet, row.item, note.receipt, time_text(note.at)]
+    photo = f"{month}-{note.number}.jpg" if note.has_photo else ""
+    return [*place, "yes" if note.is_sale else "", note.brand, note.quantity, note.text, photo]
 
 
 @views.get("/month/<month>/field-notes/<int:number>.jpg")
 def photo(month: str, number: int) -> Response:
     """The photograph of a note."""
-    found = (
+    photo = (
         find_notes().photo(number)
         if any(it.number == number for it in find_notes().of_month(month_of(month)))
         else None
     )
-    if found is None:
+    if photo is None:
         flask.abort(404)
-    answer = flask.Response(found, mimetype="image/jpeg")
+    answer = flask.Response(photo, mimetype="image/jpeg")
     answer.headers["Content-Disposition"] = f'inline; filename="{month}-{number}.jpg"'
     return answer
 

@@ -207,10 +207,10 @@ class FieldQuestions(FieldFile):
     def of_collector(self, collector: int, month: int, number: int) -> Question:
         """A question of a collector's. Raises NoQuestion, of another's too, or Fault."""
         with self._asking() as link:
-            found = _one(link, "collector = ? AND month = ? AND number = ?", collector, month, number)
-        if found is None:
+            question = _one(link, "collector = ? AND month = ? AND number = ?", collector, month, number)
+        if question is None:
             raise NoQuestion
-        return found
+        return question
 
     def answer(self, to: Question, said: Said, logged: Logged) -> int:
         """Keeps an answer; its number. An answer that is sent again keeps its number. Raises NoQuestion if the question
@@ -221,9 +221,9 @@ class FieldQuestions(FieldFile):
             if now is None:
                 raise NoQuestion
             had = "SELECT number FROM answer WHERE question = ? AND digest = ?"
-            found = link.execute(had, (to.number, digest)).fetchone()
-            if found:
-                return int(found[0])
+            answer = link.execute(had, (to.number, digest)).fetchone()
+            if answer:
+                return int(answer[0])
             if len(now.answers) >= MOST_ANSWERS:
                 raise TooManyAnswers
             columns = "question, at, what, receipt, mark, value, text, digest"
@@ -243,25 +243,25 @@ def _count_open(link: sqlite3.Connection, collector: int, replaced: int) -> None
 
 
 def _latest(link: sqlite3.Connection, of: Of) -> Optional[Question]:
-    found = _some(link, "month = ? AND collector = ? AND slot = ?", of.month, of.collector, of.slot)
-    return found[-1] if found else None
+    questions = _some(link, "month = ? AND collector = ? AND slot = ?", of.month, of.collector, of.slot)
+    return questions[-1] if questions else None
 
 
 def _one(link: sqlite3.Connection, where: str, *given: int) -> Optional[Question]:
-    found = _some(link, where, *given)
-    return found[0] if found else None
+    questions = _some(link, where, *given)
+    return questions[0] if questions else None
 
 
 def _some(link: sqlite3.Connection, where: str, *given: int) -> list[Question]:
     """The questions that meet a condition, with their answers."""
     rows = link.execute(f"SELECT {COLUMNS} FROM question WHERE {where} ORDER BY number", given).fetchall()
-    found = [Question(row[0], _of(row[1:6]), *row[6:]) for row in rows]
+    questions = [Question(row[0], _of(row[1:6]), *row[6:]) for row in rows]
     answers: dict[int, list[Answer]] = {}
     text = "SELECT question, number, at, what, receipt, mark, value, text FROM answer WHERE question"
     chosen = f" IN (SELECT number FROM question WHERE {where}) ORDER BY number"
-    for row in link.execute(text + chosen, given) if found else ():
+    for row in link.execute(text + chosen, given) if questions else ():
         answers.setdefault(row[0], []).append(Answer(row[1], row[2], Said(*row[3:])))
-    return [it._replace(answers=tuple(answers.get(it.number, ()))) for it in found]
+    return [question._replace(answers=tuple(answers.get(question.number, ()))) for question in questions]
 
 
 def _of(row: Sequence[Any]) -> Of:
@@ -269,23 +269,23 @@ def _of(row: Sequence[Any]) -> Of:
     return Of(collector, slot, month, price, receipt)
 
 
-def answer_in_words(it: Answer) -> Message:
+def answer_in_words(answer: Answer) -> Message:
     """The content of an answer, except its text."""
-    said = it.said
+    said = answer.said
     entered = mark_text(Frozen("", 0, said.mark, said.value)) if said.mark else ""
-    places = {"entered": entered, "receipt": said.receipt, "moment": moment_of(it.at)}
+    places = {"entered": entered, "receipt": said.receipt, "moment": moment_of(answer.at)}
     if said.what == CONFIRMED:
         # t: {entered} is a mark with its price, such as price 2.10, or the reason why there is none
         return _("Answered {moment}: {entered} is right (receipt {receipt}).", **places)
     if said.what == CORRECTED:
         # t: {entered} is a mark with its price, such as price 2.10, or the reason why there is none
         return _("Answered {moment}: corrected to {entered} (receipt {receipt}).", **places)
-    return _("Answered {moment}.", moment=moment_of(it.at))
+    return _("Answered {moment}.", moment=moment_of(answer.at))
 
 
-def gone_in_words(it: Question) -> Message:
+def gone_in_words(question: Question) -> Message:
     """The message that a question was taken back, and whether another one replaced it."""
-    places = {"name": of_others(it.gone_by), "moment": moment_of(it.gone_at)}
-    if it.next:
+    places = {"name": of_others(question.gone_by), "moment": moment_of(question.gone_at)}
+    if question.next:
         return _("{name} replaced the question with another one, {moment}.", **places)
     return _("{name} withdrew the question, {moment}.", **places)

@@ -72,14 +72,14 @@ class KnownCollector(NamedTuple):
 
 def collector_of_field(desk: Desk, field: str, month: int) -> KnownCollector:
     """The collector of a field Authorization. Raises NoCollector, or Fault if the office can't be asked."""
-    found = FIELD.fullmatch(field)
-    if not found or found[1] != found[1].lower():
+    match = FIELD.fullmatch(field)
+    if not match or match[1] != match[1].lower():
         raise NoCollector(NOBODY)
-    reply = desk.office.quotes(found[1], month_text(month))
+    reply = desk.office.quotes(match[1], month_text(month))
     if "refused" in reply:
         raise NoCollector(int(reply["refused"]))
     quotes = {int(row[0]): _quote(row[2], row[3], int(row[4])) for row in reply.get("quotes", [])}
-    return KnownCollector(_number_of(desk, found[1]), quotes)
+    return KnownCollector(_number_of(desk, match[1]), quotes)
 
 
 def _quote(mark: str, value: object, receipt: int) -> KnownQuote:
@@ -120,10 +120,10 @@ views = flask.Blueprint("field", __name__, url_prefix="/notes")
 
 def find_notes() -> FieldNotes:
     """The notes; if notes are off, the page doesn't exist."""
-    found = desk().field
-    if found is None:
+    field = desk().field
+    if field is None:
         flask.abort(404)
-    return found
+    return field
 
 
 def caller(month: int) -> KnownCollector:
@@ -202,10 +202,10 @@ def own(month: str) -> Response:
 def own_photo(month: str, number: int) -> Response:
     """The photograph of a note of this collector's; of anybody else's it is as if there were none."""
     notes = find_notes()
-    found = notes.photo(number, caller(month_of(month)).collector)
-    if found is None:
+    photo = notes.photo(number, caller(month_of(month)).collector)
+    if photo is None:
         flask.abort(404)
-    return flask.Response(found, mimetype="image/jpeg")
+    return flask.Response(photo, mimetype="image/jpeg")
 
 
 @views.errorhandler(Refused)
@@ -261,10 +261,10 @@ ANY_MONTH = 200001
 
 def find_questions() -> FieldQuestions:
     """The questions; if notes are off, the page doesn't exist."""
-    found = desk().questions
-    if found is None:
+    questions = desk().questions
+    if questions is None:
         flask.abort(404)
-    return found
+    return questions
 
 
 @views.get("/questions")
@@ -275,7 +275,8 @@ def list_questions() -> Response:
     rows = questions.open_of(caller(ANY_MONTH).collector)
     return flask.jsonify(
         questions=[
-            [it.number, month_text(it.of.month), it.of.slot, it.of.receipt, it.of.price, it.at, it.text] for it in rows
+            [row.number, month_text(row.of.month), row.of.slot, row.of.receipt, row.of.price, row.at, row.text]
+            for row in rows
         ]
     )
 

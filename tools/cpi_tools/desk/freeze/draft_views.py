@@ -84,27 +84,29 @@ def languages_of(config: Config) -> dict[str, str]:
     return {tag: names.get(tag.replace("-", "_"), tag) for tag in config.speaks.languages or (SOURCE,)}
 
 
-def opened_of(found: Tried, config: Config, tag: str = "") -> Optional[Opened]:
+def opened_of(trial: Tried, config: Config, tag: str = "") -> Optional[Opened]:
     """The draft for a month with a trial, in the given language, or that of the address, or the first one; None if
     there is no table, or if the release is already published. Raises Fault."""
-    if not found.report.table:
+    if not trial.report.table:
         return None
-    draft, now = desk().release_drafts.of(found), int(time.time())
-    if found.state.is_frozen and draft.moment <= now:
+    draft, now = desk().release_drafts.of(trial), int(time.time())
+    if trial.state.is_frozen and draft.moment <= now:
         return None
     try:
         tag = language_in(config, tag or flask.request.args.get("language") or None)
     except Fault:
         flask.abort(404)
-    spoken = with_waiting_reason(config, draft, found.state.month)
-    return Opened(draft, draft_on_paper(draft, spoken, tag, now), tag, found.at)
+    spoken = with_waiting_reason(config, draft, trial.state.month)
+    return Opened(draft, draft_on_paper(draft, spoken, tag, now), tag, trial.at)
 
 
 def with_waiting_reason(config: Config, draft: DraftRelease, month: int) -> Config:
     """The configuration with the reason of the draft's revision that waits at the desk, unless the office's file has one.
     The month is a number like 202601. Raises Fault if the reasons that wait can't be read."""
     waits = desk().reasons.of(month, draft.revision)
-    if waits is None or any((it.month, it.revision) == (draft.month, draft.revision) for it in config.reasons):
+    if waits is None or any(
+        (reason.month, reason.revision) == (draft.month, draft.revision) for reason in config.reasons
+    ):
         return config
     main = main_language(waits.texts, (config.speaks.languages or (SOURCE,))[0])
     others = {tag: text for tag, text in waits.texts.items() if tag != main}

@@ -310,13 +310,13 @@ def receipt_of(prepared: Prepared, table: bytes, levels: Optional[Levels] = None
 
 def figures_of(table: bytes, levels: Optional[Levels]) -> list[Figures]:
     """All items and the divisions of a table."""
-    found = list[Figures]()
+    figures = list[Figures]()
     for code, row in rows_of(table).items():
         if depth_of(code) <= 1:
             chained = points(int(row[RECEIPT_LEVEL].replace(".", "")), 1)
             own = [levels.of(code), chained] if levels and levels.has_reference else [chained, ""]
-            found.append(Figures(code, row[-1], own[0], row[RECEIPT_MONTH], row[RECEIPT_YEAR], own[1]))
-    return found
+            figures.append(Figures(code, row[-1], own[0], row[RECEIPT_MONTH], row[RECEIPT_YEAR], own[1]))
+    return figures
 
 
 class Kept(NamedTuple):
@@ -358,13 +358,13 @@ class Step(NamedTuple):
     is_good: Optional[bool]
 
 
-def steps_of(month: int, found: Tried) -> list[Step]:
+def steps_of(month: int, trial: Tried) -> list[Step]:
     """The steps before a freeze, from the last trial."""
-    window, closed = found.state.window, found.closed
+    window, closed = trial.state.window, trial.closed
     is_closed = time.time() >= window.closes
     closes = moment_of(window.closes)
     seen = desk().marks.seen_by(session().person, month)
-    left = sum(price_of(month, it) not in seen for it in found.looks)
+    left = sum(price_of(month, look) not in seen for look in trial.looks)
     until = _("closed {moment}", moment=closes)
     steps = [
         Step(
@@ -372,22 +372,22 @@ def steps_of(month: int, found: Tried) -> list[Step]:
             until if is_closed else _("open until {moment}: a freeze would be refused", moment=closes),
             is_closed,
         ),
-        Step(_("Response"), response_of(found), None),
-        Step(_("Prices to look at"), looks_left(left, len(found.looks)), not left),
+        Step(_("Response"), response_of(trial), None),
+        Step(_("Prices to look at"), looks_left(left, len(trial.looks)), not left),
     ]
-    if found.report.fault:
-        steps.append(Step(_("Trial"), found.report.fault, False))
+    if trial.report.fault:
+        steps.append(Step(_("Trial"), trial.report.fault, False))
     if closed:
         steps.append(Step(_("Carry list"), carry_list(len(closed.named)), not closed.named))
-    return [*steps, embargo(found.report.warnings)]
+    return [*steps, embargo(trial.report.warnings)]
 
 
-def response_of(found: Tried) -> Worded:
+def response_of(trial: Tried) -> Worded:
     """The number of slots with a price."""
-    for it in found.report.cards:
-        if it.name == "priced" and it.word:
+    for card in trial.report.cards:
+        if card.name == "priced" and card.word:
             # t: how many percent of the slots have a price; slots is a text such as 8 of 10 slots
-            return _("{percent} priced: {slots}", percent=Figure(it.figure), slots=it.word)
+            return _("{percent} priced: {slots}", percent=Figure(card.figure), slots=card.word)
     return NOTHING
 
 

@@ -43,13 +43,13 @@ class ReleaseDrafts:
         self._cpi, self._lock = cpi, threading.Lock()
         self._kept: Optional[tuple[Path, DraftRelease]] = None
 
-    def of(self, found: Tried) -> DraftRelease:
+    def of(self, trial: Tried) -> DraftRelease:
         """The draft for a month whose trial has a table. Raises Fault."""
-        state = found.state
+        state = trial.state
         revision = state.revision if state.is_frozen else state.revision + 1
         with self._lock:
-            if self._kept is None or self._kept[0] != found.copy:
-                self._kept = found.copy, draft_on(self._cpi, found.copy, month_text(state.month), revision)
+            if self._kept is None or self._kept[0] != trial.copy:
+                self._kept = trial.copy, draft_on(self._cpi, trial.copy, month_text(state.month), revision)
             return self._kept[1]
 
 
@@ -163,13 +163,13 @@ class Publisher:
     def releases(self, office: StoredOffice) -> list[Release]:
         """All frozen months, the latest table first. Raises Fault."""
         there, address, moments = self.read_published(), self.address(), office.frozen_moments()
-        by = {(it.month, it.revision): it.by for it in self.read_planned()}
-        found = list[Release]()
+        by = {(plan.month, plan.revision): plan.by for plan in self.read_planned()}
+        releases = list[Release]()
         for (number, revision), (__, at) in moments.items():
             table = (month_text(number), revision)
             page = address + page_of_release(*table) if address and table in there else ""
-            found.append(Release(*table, at, table in there, by.get(table, ""), page))
-        return sorted(found, key=lambda it: (it.at, it.month, it.revision), reverse=True)
+            releases.append(Release(*table, at, table in there, by.get(table, ""), page))
+        return sorted(releases, key=lambda release: (release.at, release.month, release.revision), reverse=True)
 
     # ---- what is planned
 
@@ -177,7 +177,7 @@ class Publisher:
         """The planned publications with their moments, the first one first. Raises Fault if the file can't be read."""
         try:
             found = json.loads(self._plan.read_text(encoding="utf-8"))
-            return sorted((Planned(*it) for it in found), key=lambda it: it.at)
+            return sorted((Planned(*it) for it in found), key=lambda plan: plan.at)
         except FileNotFoundError:
             return []
         except OSError as fault:
@@ -189,7 +189,7 @@ class Publisher:
         """Plans to publish a table at its moment; whoever planned it before did. Raises Fault."""
         with self._lock:
             others = self.read_planned()
-            if (one.month, one.revision) not in {(it.month, it.revision) for it in others}:
+            if (one.month, one.revision) not in {(plan.month, plan.revision) for plan in others}:
                 self._log.append(
                     one.by, SAID, text=f"to be published at its moment, {time_text(one.at)}: {name_table(one)}"
                 )
@@ -200,9 +200,9 @@ class Publisher:
         """Takes a plan back. Raises Fault."""
         with self._lock:
             rest = self.read_planned()
-            for it in [it for it in rest if (it.month, it.revision) == (month, revision)]:
-                self._log.append(by, SAID, text=f"not to be published at its moment after all: {name_table(it)}")
-                rest.remove(it)
+            for plan in [plan for plan in rest if (plan.month, plan.revision) == (month, revision)]:
+                self._log.append(by, SAID, text=f"not to be published at its moment after all: {name_table(plan)}")
+                rest.remove(plan)
             self._keep(rest)
 
     def _keep(self, planned: Sequence[Planned]) -> None:
@@ -298,7 +298,7 @@ class Publisher:
         """Removes the planned publications that are now on the website."""
         with self._lock:
             there, planned = self.read_published(), self.read_planned()
-            rest = [it for it in planned if (it.month, it.revision) not in there]
+            rest = [plan for plan in planned if (plan.month, plan.revision) not in there]
             if len(rest) < len(planned):
                 self._keep(rest)
 
@@ -351,6 +351,6 @@ def _explain_end(status: int, errors: str) -> NotWritten:
     return NotWritten(says, line)
 
 
-def name_table(it: Planned) -> str:
+def name_table(plan: Planned) -> str:
     """A table in a line of the log."""
-    return f"{it.month}, revision {it.revision}"
+    return f"{plan.month}, revision {plan.revision}"

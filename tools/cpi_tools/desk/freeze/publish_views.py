@@ -49,8 +49,8 @@ def show_result(status: int = 200, fault: Worded = NOTHING) -> Response:
         "publisher": publisher,
         "due": due_at(releases, now),
         "shown_due": shown_due(releases),
-        "to_come": [it for it in releases[::-1] if it.at > now],
-        "published": [it for it in releases if it.is_published],
+        "to_come": [release for release in releases[::-1] if release.at > now],
+        "published": [release for release in releases if release.is_published],
         "address": address,
         "written_at": publisher.written_at(),
         "not_written": not_written(),
@@ -60,12 +60,12 @@ def show_result(status: int = 200, fault: Worded = NOTHING) -> Response:
 
 def due_at(releases: list[Release], now: int) -> list[Release]:
     """The tables that are out, and not in the website."""
-    return [it for it in releases if it.at <= now and not it.is_published]
+    return [release for release in releases if release.at <= now and not release.is_published]
 
 
 def shown_due(releases: list[Release]) -> str:
     """A sum of the tables that the page shows as due."""
-    return sum_of([it.sum_of_page for it in due_at(releases, int(time.time()))])
+    return sum_of([release.sum_of_page for release in due_at(releases, int(time.time()))])
 
 
 def releases_of(publisher: Publisher) -> list[Release]:
@@ -96,17 +96,19 @@ def plan() -> Response:
     """Plans to publish a table at its moment, or takes that back, if the page showed how it is."""
     publisher, month, revision, what = publisher_here(), field("month"), field("revision"), field("what")
     try:
-        found = [it for it in releases_of(publisher) if (it.month, str(it.revision)) == (month, revision)]
-        if not found or what not in ("plan", "drop"):
+        releases = [
+            release for release in releases_of(publisher) if (release.month, str(release.revision)) == (month, revision)
+        ]
+        if not releases or what not in ("plan", "drop"):
             places = {"month": of_others(month), "revision": of_others(revision)}
             raise Fault(_("There is nothing to publish: {month} has no revision {revision}.", **places))
-        if field("shown") != found[0].sum_of_page:
+        if field("shown") != releases[0].sum_of_page:
             says_who = changed_by_step(PLANNED, NOT_PLANNED, has=f"{month}, revision {revision}")
             return show_result(409, says_who)
         if what == "drop":
-            publisher.drop(session().person, month, found[0].revision)
+            publisher.drop(session().person, month, releases[0].revision)
         else:
-            publisher.plan(Planned(session().person, month, found[0].revision, found[0].at))
+            publisher.plan(Planned(session().person, month, releases[0].revision, releases[0].at))
     except Fault as fault:
         return show_result(400, says(fault))
     return flask.redirect(flask.url_for("publish.show"), 303)
@@ -114,7 +116,7 @@ def plan() -> Response:
 
 def publisher_here() -> Publisher:
     """The writer of the website; the page doesn't exist if the application has no folder for the website."""
-    found = desk().publisher
-    if found is None:
+    publisher = desk().publisher
+    if publisher is None:
         flask.abort(404)
-    return found
+    return publisher

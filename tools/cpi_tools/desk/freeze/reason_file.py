@@ -63,7 +63,7 @@ class ReasonFile(NamedTuple):
 
     def has(self, month: str, revision: int) -> bool:
         """Whether the file contains a reason for a revision of a month like `2026-01`. Raises Fault."""
-        return any(it[:2] == (month, revision) for it in read_reasons(self.path, self.clock))
+        return any(reason[:2] == (month, revision) for reason in read_reasons(self.path, self.clock))
 
 
 def reason_file(site: Site) -> ReasonFile:
@@ -211,14 +211,14 @@ class Reason(NamedTuple):
 def in_one_line(texts: Mapping[str, str], first: str) -> dict[str, str]:
     """Texts by their languages, each in one line, without those that are empty. Raises Fault if the text of the first
     language is empty, or one is too long."""
-    found = {tag: " ".join(text.split()) for tag, text in texts.items() if text.strip()}
-    if first not in found:
+    line = {tag: " ".join(text.split()) for tag, text in texts.items() if text.strip()}
+    if first not in line:
         raise Fault(EMPTY)
-    for text in found.values():
+    for text in line.values():
         if len(text) > MOST_LETTERS:
             places = {"count": whole(len(text)), "most": whole(MOST_LETTERS)}
             raise Fault(_("A reason can have at most {most} characters, and one has {count}.", **places))
-    return found
+    return line
 
 
 class RevisionReasons:
@@ -279,7 +279,7 @@ class RevisionReasons:
 
     def _write(self, reasons: list[Reason]) -> None:
         try:
-            write_whole(self._path, json.dumps([it._asdict() for it in reasons]).encode(), 0o600)
+            write_whole(self._path, json.dumps([reason._asdict() for reason in reasons]).encode(), 0o600)
         except OSError as fault:
             raise Fault(because_of(fault)) from fault
 

@@ -83,7 +83,7 @@ def asked_of(state: State) -> Optional[Asked]:
 def still_asked() -> Optional[Asked]:
     """The questions about the reopened month, which is the last frozen one, until the reason is given. Raises Fault."""
     with desk().copies_now() as copy, read_copy(copy.path) as office:
-        frozen = max((it.month for it in office.releases()), default=0)
+        frozen = max((release.month for release in office.releases()), default=0)
         asked = asked_of(state_of(office, frozen)) if frozen else None
     return asked if asked and not asked.reason else None
 

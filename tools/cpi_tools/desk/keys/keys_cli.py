@@ -50,22 +50,22 @@ def read_names(path: Path, known: Collection[int]) -> Names:
     except BadSheet as bad:
         refuse(bad.fault)
     look_at_columns(sheet)
-    found: dict[int, str] = {}
+    names: dict[int, str] = {}
     rows: dict[int, int] = {}
     for row in sheet.rows:
         number = number_of(row, known)
-        if number in found:
+        if number in names:
             because = f"collector {number} is there twice, first in row {rows[number]}"
             refuse(SheetFault(row.origin, because, "leave one of the two rows"))
-        found[number], rows[number] = name_of(row), row.origin.row
-    return Names(found, tuple(it for it in sheet.columns if it and it not in COLUMNS))
+        names[number], rows[number] = name_of(row), row.origin.row
+    return Names(names, tuple(column for column in sheet.columns if column and column not in COLUMNS))
 
 
 def look_at_columns(sheet: Sheet) -> None:
     """Refuses a file without one of the columns, and a row with a cell in no column."""
     for column in COLUMNS:
         if column not in sheet.columns:
-            read = ", ".join(it or "an empty name" for it in sheet.columns)
+            read = ", ".join(column or "an empty name" for column in sheet.columns)
             because = f"there is no column {column}, only {read}"
             refuse(SheetFault(Origin(sheet.file, 1), because, f"name a column {column} in the first row"))
     if sheet.faults:
@@ -90,7 +90,7 @@ def name_of(row: Row) -> str:
     if not name:
         because = message("the name of collector {number} is empty", number=of_others(row[NUMBER].strip()))
         refuse(SheetFault(row.origin, because, message("write it, or delete the row")))
-    if any(unicodedata.category(it) == "Cc" for it in name):
+    if any(unicodedata.category(letter) == "Cc" for letter in name):
         because = message("the name {name} contains a control character", name=of_others(repr(name)))
         refuse(SheetFault(row.origin, because, message("write it on one line")))
     if len(name) > LONGEST_NAME:
@@ -164,10 +164,10 @@ LAST_PORT = 65_535
 
 def an_origin(text: str) -> str:
     """A type of argparse: the address of a front, `https://` with a host and perhaps a port, in small letters."""
-    found = re.fullmatch(rf"(https://(?:{HOST})(?::([1-9][0-9]{{0,4}}))?)/?", text.lower(), re.ASCII)
-    if not found or int(found[3] or 1) > LAST_PORT:
+    match = re.fullmatch(rf"(https://(?:{HOST})(?::([1-9][0-9]{{0,4}}))?)/?", text.lower(), re.ASCII)
+    if not match or int(match[3] or 1) > LAST_PORT:
         raise argparse.ArgumentTypeError(f"{text!r} isn't an address like https://prices.example, without a path")
-    return found[1]
+    return match[1]
 
 
 def keys_of(file: Path, chosen: Optional[list[int]]) -> tuple[dict[int, str], list[int]]:

@@ -28,9 +28,9 @@ SHOWN = 50
 
 def find_questions() -> FieldQuestions:
     """The questions: these views exist only if field notes are on."""
-    found = desk().questions
-    assert found is not None
-    return found
+    questions = desk().questions
+    assert questions is not None
+    return questions
 
 
 def log_step(text: str, **places: object) -> Logged:
@@ -165,14 +165,14 @@ class Row(NamedTuple):
 
 def rows_of(office: StoredOffice, questions: list[Question]) -> list[Row]:
     """Questions with what the office has of their slots."""
-    slots = {(it.collector, it.slot): it for it in office.assignments()}
+    slots = {(assignment.collector, assignment.slot): assignment for assignment in office.assignments()}
     outlets, items = office.outlets(), {it.code: it.text for it in office.items()}
-    found = list[Row]()
-    for it in questions:
-        place = slots.get((it.of.collector, it.of.slot))
+    rows = list[Row]()
+    for question in questions:
+        place = slots.get((question.of.collector, question.of.slot))
         names = (outlets.get(place.outlet, ""), items.get(place.item, "")) if place else ("", "")
-        found.append(Row(it, *names))
-    return found
+        rows.append(Row(question, *names))
+    return rows
 
 
 @views.get("/month/<month>/questions")
@@ -188,7 +188,7 @@ def show_list(month: str, status: int = 200, fault: object = "") -> Response:
     first = int(start) if start.isdecimal() and len(start) < 9 else 0
     with desk().copies.latest() as copy, read_copy(copy.path) as office:
         rows = rows_of(office, questions[first : first + SHOWN])
-    counts = {"count": len(questions), "waiting": sum(it.state == OPEN for it in questions)}
+    counts = {"count": len(questions), "waiting": sum(question.state == OPEN for question in questions)}
     named = {**counts, "first": first, "step": SHOWN, "months": find_questions().months, "amount": Amount}
     return page("questions.html", status, month=month, rows=rows, fault=fault, **named)
 

@@ -97,10 +97,10 @@ class Slots:
 
     def by(self, key: Callable[[int, int, str], Key]) -> dict[Key, Count]:
         """Counts by something of collector, outlet and item, in its order."""
-        found: dict[Key, Count] = defaultdict(Count)
+        counts: dict[Key, Count] = defaultdict(Count)
         for collector, outlet, item, mark, count in self.rows:
-            found[key(collector, outlet, item)].add_many(mark or SILENT, count)
-        return dict(sorted(found.items()))
+            counts[key(collector, outlet, item)].add_many(mark or SILENT, count)
+        return dict(sorted(counts.items()))
 
     def weigh(self, by_code: Mapping[str, Count], codes: Iterable[str]) -> tuple[int, int]:
         """Parts of the plan's weight that are priced, in millionths, and the weight in all."""
@@ -171,9 +171,9 @@ def month_at(office: StoredOffice, at: int) -> Optional[int]:
     """The month that the desk works at: the first month that isn't frozen and whose window has opened; without one, the
     last month whose window has opened; without that, the first month of the calendar."""
     calendar = office.calendar()
-    frozen = {it.month for it in office.releases()}
+    frozen = {release.month for release in office.releases()}
     opened = [it.month for it in calendar if it.opens <= at]
-    waiting = [it for it in opened if it not in frozen and it > max(frozen, default=0)]
+    waiting = [month for month in opened if month not in frozen and month > max(frozen, default=0)]
     return next(iter([*waiting[:1], *opened[-1:], *(it.month for it in calendar[:1])]), None)
 
 

@@ -87,7 +87,7 @@ class Marks:
 
     def _add(self, made: Sequence[Mark]) -> None:
         with self._lock:
-            self._append(b"".join(json.dumps(it).encode() + b"\n" for it in made))
+            self._append(b"".join(json.dumps(mark).encode() + b"\n" for mark in made))
             self._all += made
 
     def _append(self, lines: bytes) -> None:
@@ -106,11 +106,11 @@ class Marks:
 
     def seen_by(self, person: str, month: int) -> set[Price]:
         """The prices of a month that a person has seen."""
-        found = set[Price]()
+        prices = set[Price]()
         for it in self._all:
             if it.by == person and it.of.month == month and it.what in (SEEN, UNSEEN):
-                (found.add if it.what == SEEN else found.discard)(it.of)
-        return found
+                (prices.add if it.what == SEEN else prices.discard)(it.of)
+        return prices
 
     def seen_by_anybody(self, month: int) -> set[Price]:
         """The prices of a month that somebody has seen."""
@@ -124,11 +124,11 @@ class Marks:
 
     def notes_of(self, month: int) -> dict[Price, list[Mark]]:
         """The notes on prices of a month, the first ones first."""
-        found: dict[Price, list[Mark]] = {}
+        notes: dict[Price, list[Mark]] = {}
         for it in self._all:
             if it.of.month == month and it.what == NOTE:
-                found.setdefault(it.of, []).append(it)
-        return found
+                notes.setdefault(it.of, []).append(it)
+        return notes
 
 
 # ==== the prices of a month to check, worst first, each with why, and with a question for its collector
@@ -192,8 +192,8 @@ class Look(NamedTuple):
 def looks_of(facts: Facts, width: int) -> list[Look]:
     """The prices of a month to check, worst first; `width` is the fences' width, in percent."""
     beside = _Beside(facts)
-    found = [_look(facts, it, beside) for it in to_look_at(facts, width)]
-    return sorted(found, key=lambda it: (-abs(it.weight), CONFIRMED not in it.why, it.slot))
+    looks = [_look(facts, unusual_price, beside) for unusual_price in to_look_at(facts, width)]
+    return sorted(looks, key=lambda look: (-abs(look.weight), CONFIRMED not in look.why, look.slot))
 
 
 class _Beside:
@@ -217,7 +217,7 @@ class _Beside:
 
     def others(self, slot: Assignment) -> tuple[Other, ...]:
         """The prices of the item of a slot in its other slots."""
-        found = [self._other(it) for it in self._by_item[slot.item] if it[:2] != slot[:2]]
+        found = [self._other(assignment) for assignment in self._by_item[slot.item] if assignment[:2] != slot[:2]]
         return tuple(sorted(it for it in found if it))
 
     def _other(self, slot: Assignment) -> Optional[Other]:
@@ -239,13 +239,23 @@ def _moves(facts: Facts) -> Iterator[tuple[Series, int]]:
         yield from ((series, moved) for moved, series in estimates(facts, code))
 
 
-def _look(facts: Facts, it: Unusual, beside: _Beside) -> Look:
-    slot, why = it.slot, it.why
+def _look(facts: Facts, unusual_price: Unusual, beside: _Beside) -> Look:
+    slot, why = unusual_price.slot, unusual_price.why
     place = facts.place_cells(slot)
     ask = [*dict.fromkeys(ASK.get(each, ASK_ELSE) for each in why)]
     known = (slot[:2], slot.series, place[1], place[2], place[3])
     moved, others = beside.estimate_effect(slot.series), beside.others(slot)
-    return Look(*known, it.last, it.price, it.percent, why, ask, moved, beside.aggregate(place[1]), others)
+    return Look(
+        *known,
+        unusual_price.last,
+        unusual_price.price,
+        unusual_price.percent,
+        why,
+        ask,
+        moved,
+        beside.aggregate(place[1]),
+        others,
+    )
 
 
 # ==== the prices to check that a page shows: their filters, their order, and the first one
@@ -325,16 +335,16 @@ class Chosen(NamedTuple):
         """The filters without a place, so that the list begins with the first price."""
         return self._replace(after="", before="", only="").query
 
-    def has(self, it: Look, is_seen: bool, question: str = "") -> bool:
+    def has(self, look: Look, is_seen: bool, question: str = "") -> bool:
         """Whether a price is one of those that are shown; `question` is what has become of the question about it."""
         if self.only:
-            return key_of(it) == self.only
+            return key_of(look) == self.only
         if self.show != ALL and is_seen != (self.show == ALREADY_SEEN):
             return False
         return (
-            (not self.reason or REASONS[self.reason] in it.why)
-            and it.code.startswith(self.division)
-            and self.who in ("", str(it.slot[0]))
+            (not self.reason or REASONS[self.reason] in look.why)
+            and look.code.startswith(self.division)
+            and self.who in ("", str(look.slot[0]))
             and (not self.asked or self.asked == question or (self.asked == ASKED_SOME and question != ""))
         )
 
@@ -349,9 +359,9 @@ class Part(NamedTuple):
     further: Optional[dict[str, str]]
 
 
-def key_of(it: Look) -> str:
+def key_of(look: Look) -> str:
     """A price in an address: `8-1`."""
-    return f"{it.slot[0]}-{it.slot[1]}"
+    return f"{look.slot[0]}-{look.slot[1]}"
 
 
 def chosen_of(asked: Mapping[str, str]) -> Chosen:
@@ -378,7 +388,7 @@ def part_of(
     """The part of all prices that a page shows; `seen` contains the slots of the prices that the person has seen, and
     `asked` the state of the question about each slot."""
     ordered = sorted(looks, key=SORTED_BY[chosen.sort]) if chosen.sort else [*looks]
-    fits = [chosen.has(it, it.slot in seen, asked.get(it.slot, "")) for it in ordered]
+    fits = [chosen.has(look, look.slot in seen, asked.get(look.slot, "")) for look in ordered]
     by_filters = chosen._replace(only="")
     places = {key_of(it): at for at, it in enumerate(ordered)}
     wanted = [at for at, is_one in enumerate(fits) if is_one]
@@ -393,7 +403,7 @@ def part_of(
     further = {**chosen.filters, "after": key_of(ordered[last])} if last >= 0 else {}
     return Part(
         [ordered[at] for at in shown],
-        sum(by_filters.has(it, it.slot in seen, asked.get(it.slot, "")) for it in ordered),
+        sum(by_filters.has(look, look.slot in seen, asked.get(look.slot, "")) for look in ordered),
         earlier if any(at < first for at in wanted) else None,
         further if any(at > last for at in wanted) else None,
     )

@@ -53,15 +53,15 @@ MONTHS, WIDE, HIGH, EDGE = 13, 120, 32, 3
 
 def months_to(month: int) -> list[int]:
     """A month and those before it, the first ones first."""
-    found = [month]
-    while len(found) < MONTHS:
-        found.insert(0, month_before(found[0]))
-    return found
+    months = [month]
+    while len(months) < MONTHS:
+        months.insert(0, month_before(months[0]))
+    return months
 
 
 def history(quotes: Mapping[int, tuple[str, int]], month: int) -> list[tuple[int, int]]:
     """The months of the last year in which a series had a price, with it."""
-    return [(it, quotes[it][1]) for it in months_to(month) if it in quotes and quotes[it][1]]
+    return [(month, quotes[month][1]) for month in months_to(month) if month in quotes and quotes[month][1]]
 
 
 def line_of(quotes: Mapping[int, tuple[str, int]], month: int, render: Callable[[Message], object]) -> Markup:
@@ -131,9 +131,9 @@ class Row(NamedTuple):
         return f"{self.key}-{self.look.price}"
 
 
-def price_of(month: int, it: Look) -> Price:
+def price_of(month: int, look: Look) -> Price:
     """The price to which a person's mark belongs."""
-    return Price(month, *it.slot, it.price)
+    return Price(month, *look.slot, look.price)
 
 
 def amount(price: int) -> Amount:
@@ -146,27 +146,27 @@ def percent_of(text: str) -> Figure:
     return Figure(text)
 
 
-def rows_of(month: int, found: Tried, looks: list[Look], asked: Mapping[tuple[int, int], list[Question]]) -> list[Row]:
+def rows_of(month: int, trial: Tried, looks: list[Look], asked: Mapping[tuple[int, int], list[Question]]) -> list[Row]:
     """Some prices with their histories, which are one query; `asked` contains the month's questions by slot."""
     seen, notes = desk().marks.seen_by(session().person, month), desk().marks.notes_of(month)
     rows, notes_of_field = list[Row](), by_slot(month)
-    with read_copy(found.copy) as office:
-        quotes = office.quotes_of_series(it.series for it in looks)
-    for it in looks:
-        price = price_of(month, it)
-        picture = line_of(quotes.get(it.series, {}), month, desk().teller.render)
-        of_field = notes_of_field.get(it.slot, []), asked.get(it.slot, [])
-        rows.append(Row(it, picture, notes.get(price, []), price in seen, *of_field))
+    with read_copy(trial.copy) as office:
+        quotes = office.quotes_of_series(look.series for look in looks)
+    for look in looks:
+        price = price_of(month, look)
+        picture = line_of(quotes.get(look.series, {}), month, desk().teller.render)
+        of_field = notes_of_field.get(look.slot, []), asked.get(look.slot, [])
+        rows.append(Row(look, picture, notes.get(price, []), price in seen, *of_field))
     return rows
 
 
 def by_slot(month: int) -> dict[tuple[int, int], list[FieldNote]]:
     """The notes of a month by collector and slot, the first ones first; none if they are off."""
     notes = desk().field
-    found: dict[tuple[int, int], list[FieldNote]] = {}
+    field_notes: dict[tuple[int, int], list[FieldNote]] = {}
     for it in notes.of_month(month) if notes else []:
-        found.setdefault((it.collector, it.slot), []).append(it)
-    return found
+        field_notes.setdefault((it.collector, it.slot), []).append(it)
+    return field_notes
 
 
 def questions_by_slot(month: int) -> dict[tuple[int, int], list[Question]]:
@@ -181,7 +181,7 @@ def questions_by_slot(month: int) -> dict[tuple[int, int], list[Question]]:
 def state_of(questions: list[Question]) -> str:
     """The state of a slot's questions: OPEN if one is open, or ANSWERED if one was answered; empty if all of them were
     withdrawn."""
-    states = {it.state for it in questions}
+    states = {question.state for question in questions}
     return next((it for it in (OPEN, ANSWERED) if it in states), "")
 
 
@@ -223,9 +223,11 @@ def show_result(month: str, asked: Mapping[str, str], status: int = 200, /, **ty
     named.update(chosen=chosen, rows=[], part=None, amount=amount, **choices())
     if found:
         seen = desk().marks.seen_by(session().person, number)
-        slots = {it.slot for it in found.looks if price_of(number, it) in seen}
+        slots = {look.slot for look in found.looks if price_of(number, look) in seen}
         asked_about = questions_by_slot(number)
-        part = part_of(found.looks, slots, chosen, {slot: state_of(it) for slot, it in asked_about.items()})
+        part = part_of(
+            found.looks, slots, chosen, {slot: state_of(questions) for slot, questions in asked_about.items()}
+        )
         rows = rows_of(number, found, part.looks, asked_about)
         named.update(rows=rows, part=part, seen=len(slots), **filters_of(found))
     answer = page("looks.html", status, **named)
@@ -242,12 +244,12 @@ def choices() -> dict[str, object]:
     return {"reasons_told": reasons, "shows_told": shows, "orders_told": orders, "asked_told": asked}
 
 
-def filters_of(found: Tried) -> dict[str, object]:
+def filters_of(trial: Tried) -> dict[str, object]:
     """The filters for the prices of a month: the divisions with their titles, and the collectors."""
-    titles = {it.code: it.title for it in found.report.divisions}
-    codes = sorted({it.code[:2] for it in found.looks})
+    titles = {division.code: division.title for division in trial.report.divisions}
+    codes = sorted({look.code[:2] for look in trial.looks})
     divisions = [(code, titles.get(code, "")) for code in codes]
-    return {"divisions": divisions, "collectors": sorted({it.slot[0] for it in found.looks})}
+    return {"divisions": divisions, "collectors": sorted({look.slot[0] for look in trial.looks})}
 
 
 # ---- marks
@@ -300,7 +302,7 @@ def mark_many(month: str) -> Response:
 def shown_price(month: int, numbers: Sequence[str]) -> Price:
     """The price of a row from the collector, slot and price in the form; a form with other texts isn't a form of this
     page (400)."""
-    if len(numbers) != 3 or not all(it.isascii() and it.isdigit() and len(it) < 19 for it in numbers):
+    if len(numbers) != 3 or not all(number.isascii() and number.isdigit() and len(number) < 19 for number in numbers):
         flask.abort(400)
     return Price(month, *map(int, numbers))
 
@@ -309,12 +311,12 @@ def changed_since(month: int, prices: Sequence[Price]) -> Optional[Message]:
     """The message that some of the prices no longer belong to the month, and who had it tried since; None if they all
     do."""
     found = desk().trials.latest(month)
-    known = {price_of(month, it) for it in found.looks} if found else set()
-    gone = [it for it in prices if it not in known]
+    known = {price_of(month, look) for look in found.looks} if found else set()
+    gone = [price for price in prices if price not in known]
     if not gone:
         return None
     by = (found.by, found.at) if found else ("", 0)
-    slots = ", ".join(f"{it.collector}/{it.slot}" for it in gone)
+    slots = ", ".join(f"{price.collector}/{price.slot}" for price in gone)
     named = _("These prices have changed since your page was loaded: {slots}.", slots=of_others(slots))
     return sentences(changed_by(*by), named) if len(prices) > 1 else changed_by(*by)
 
@@ -325,9 +327,9 @@ def place_after(month: int, price: Price, what: str, chosen: Chosen) -> str:
     if what != SEEN or not found or chosen.only:
         return f"{price.collector}-{price.slot}"
     seen = desk().marks.seen_by(session().person, month)
-    slots = {it.slot for it in found.looks if price_of(month, it) in seen}
-    asked_about = {slot: state_of(it) for slot, it in questions_by_slot(month).items()}
-    keys = [key_of(it) for it in part_of(found.looks, slots, chosen, asked_about).looks]
+    slots = {look.slot for look in found.looks if price_of(month, look) in seen}
+    asked_about = {slot: state_of(questions) for slot, questions in questions_by_slot(month).items()}
+    keys = [key_of(look) for look in part_of(found.looks, slots, chosen, asked_about).looks]
     own = f"{price.collector}-{price.slot}"
     at = keys.index(own) if own in keys else -1
     return next(iter([*keys[at + 1 : at + 2], *keys[max(at - 1, 0) : max(at, 0)], own]))
@@ -346,17 +348,17 @@ def back(month: str, chosen: Chosen, place: str) -> Response:
 def to_send(month: str, collector: int) -> Response:
     """The question to a collector, as a text to send. Prices are that collector's own."""
     found = desk().trials.latest(month_of(month))
-    looks = [it for it in (found.looks if found else []) if it.slot[0] == collector]
+    looks = [look for look in (found.looks if found else []) if look.slot[0] == collector]
     if not looks:
         flask.abort(404)
     notes = desk().marks.notes_of(month_of(month))
     text = [f"{render_text(head_of(month_of(month), collector, len(looks)))}\n"]
-    for it in looks:
-        places = {"item": of_others(it.item), "outlet": of_others(it.outlet)}
-        text.append(f"\n{render_text(_('Slot {slot}: {item}; {outlet}', slot=it.slot[1], **places))}\n")
-        text.append(f"  {render_text(prices_of(it))}\n")
-        text += [f"  {render_text(each)}\n" for each in it.ask]
-        text += [f"  {isolate(each.text)}\n" for each in notes.get(price_of(month_of(month), it), [])]
+    for look in looks:
+        places = {"item": of_others(look.item), "outlet": of_others(look.outlet)}
+        text.append(f"\n{render_text(_('Slot {slot}: {item}; {outlet}', slot=look.slot[1], **places))}\n")
+        text.append(f"  {render_text(prices_of(look))}\n")
+        text += [f"  {render_text(each)}\n" for each in look.ask]
+        text += [f"  {isolate(each.text)}\n" for each in notes.get(price_of(month_of(month), look), [])]
     answer = flask.Response("".join(text), mimetype="text/plain")
     answer.headers["Content-Disposition"] = f'attachment; filename="{month}-collector-{collector}.txt"'
     return answer
@@ -378,11 +380,11 @@ def head_of(month: int, collector: int, count: int) -> Message:
     )
 
 
-def prices_of(it: Look) -> Message:
+def prices_of(look: Look) -> Message:
     """The last price and this one."""
-    if it.last is None:
-        return _("no last price, now {price}", price=amount(it.price))
-    places = {"last": amount(it.last), "price": amount(it.price)}
-    if not it.percent:
+    if look.last is None:
+        return _("no last price, now {price}", price=amount(look.price))
+    places = {"last": amount(look.last), "price": amount(look.price)}
+    if not look.percent:
         return _("last price {last}, now {price}", **places)
-    return _("last price {last}, now {price}, {change} percent", change=percent_of(it.percent), **places)
+    return _("last price {last}, now {price}, {change} percent", change=percent_of(look.percent), **places)

@@ -62,10 +62,10 @@ class TablesKept:
     def before(self, month: int, at: int) -> Optional[Earlier]:
         """The last table from a day before that of a moment."""
         begins = f"{month_text(month)}-at-"
-        found = [path for path in self._folder.glob(f"{begins}*.csv") if path.stem[len(begins) :] < day_of(at)]
-        if not found:
+        paths = [path for path in self._folder.glob(f"{begins}*.csv") if path.stem[len(begins) :] < day_of(at)]
+        if not paths:
             return None
-        last = max(found)
+        last = max(paths)
         return Earlier(last.stem[len(begins) :], last.read_bytes())
 
 
@@ -150,16 +150,16 @@ class Tried(NamedTuple):
     def sum(self) -> str:
         """A sum of what its pages show, so that nobody freezes another month than the page showed."""
         table = self.report.table.decode()
-        looks = [[*it.slot, it.price, it.weight, str(it.says)] for it in self.looks]
+        looks = [[*look.slot, look.price, look.weight, str(look.says)] for look in self.looks]
         said = [[str(it) for it in card] for card in self.report.cards]
         carried = [[it.code, str(it.marks)] for it in self.closed.named] if self.closed else []
-        warned = [str(it) for it in self.report.warnings]
+        warned = [str(warning) for warning in self.report.warnings]
         return sum_of([[*self.state.window], self.state.revision, table, looks, said, carried, warned])
 
 
-def known_levels(found: Optional[Tried]) -> Optional[Levels]:
+def known_levels(trial: Optional[Tried]) -> Optional[Levels]:
     """The levels of a trial, if there is one, and it has levels."""
-    return found.report.levels if found else None
+    return trial.report.levels if trial else None
 
 
 class Running(NamedTuple):
@@ -235,21 +235,21 @@ class Trials:
         folder = tempfile.TemporaryDirectory(prefix="cpi-desk-trial-", dir=self._room)
         try:
             with self._copies.latest() as it:
-                found = self._try_on_copy(it.path, it.at, right_copy(it.path, Path(folder.name)), month)
+                trial = self._try_on_copy(it.path, it.at, right_copy(it.path, Path(folder.name)), month)
         except BaseException:
             folder.cleanup()
             raise
-        if found.report.table and not found.state.is_frozen:
-            self._tables.keep(month, found.at, found.report.table)
+        if trial.report.table and not trial.state.is_frozen:
+            self._tables.keep(month, trial.at, trial.report.table)
         with self._lock:
             self._faults.pop(month, None)
             old = [self._found.pop(month)] if month in self._found else []
-            self._found[month] = (found, folder)
+            self._found[month] = (trial, folder)
             while len(self._found) > KEPT:
                 old.append(self._found.pop(next(iter(self._found))))
         for each in old:
             each[1].cleanup()
-        return found
+        return trial
 
     def _try_on_copy(self, office_copy: Path, at: int, copy: Path, month: int) -> Tried:
         asked = Asked(month, at, self._left_out, PERCENT_OF_WIDTH, SMALL)
@@ -267,7 +267,7 @@ class Trials:
 
     def _tables_known(self) -> list[Published]:
         """The tables that earlier trials printed, except those of the tried months themselves."""
-        levels = [known_levels(found) for found, _folder in [*self._found.values()]]
+        levels = [known_levels(trial) for trial, _folder in [*self._found.values()]]
         return [table for each in levels if each for table in each.others]
 
     def _levels(self, month: int, frozen: Optional[Frozen]) -> Optional[Levels]:

@@ -35,36 +35,36 @@ def first() -> Response:
 @views.get("/month/<month>/")
 def glance(month: str) -> Response:
     """A month at a glance; with `still` the page doesn't load itself again."""
-    found = desk().watch.glance(month_of(month))
+    glance = desk().watch.glance(month_of(month))
     with desk().copies.latest() as copy, read_copy(copy.path) as office:
-        months = [month_text(it) for it in months_of(office)]
+        months = [month_text(month) for month in months_of(office)]
     is_still = "still" in flask.request.args
     now = int(time.time())
-    expected = desk().watch.expect(found)
+    expected = desk().watch.expect(glance)
     named = {
-        "found": found,
+        "found": glance,
         "months": months,
         "is_still": is_still,
         "refresh": REFRESH,
         "now": now,
-        "chart": chart_of(desk().watch.list_seen(), found.state.month),
+        "chart": chart_of(desk().watch.list_seen(), glance.state.month),
     }
-    return page("glance.html", month=found.month, left=time_left(found, now), expected=expected, **named)
+    return page("glance.html", month=glance.month, left=time_left(glance, now), expected=expected, **named)
 
 
 @views.get("/month/<month>/glance/<key>.csv")
 def glance_file(month: str, key: str) -> Response:
     """A table of the glance as a file."""
-    found = desk().watch.glance(month_of(month))
-    for section in found.sections:
+    file = desk().watch.glance(month_of(month))
+    for section in file.sections:
         if section.key == key:
-            return section_file(found.month, section)
+            return section_file(file.month, section)
     flask.abort(404)
 
 
-def time_left(found: Glance, now: int) -> Message:
+def time_left(glance: Glance, now: int) -> Message:
     """The time until the window closes, or until it opens, in days and hours: `3 days and 4 hours`."""
-    window = found.state.window
+    window = glance.state.window
     seconds = (window.opens if now < window.opens else window.closes) - now
     if seconds <= 0:
         return sentences()
@@ -110,12 +110,12 @@ class Chart(NamedTuple):
 def chart_of(rows: Sequence[Seen], month: int) -> Chart:
     """The picture of a month, with a bar for each day on which the application saw something; rows are in the order of
     their moments."""
-    last = {it.after // DAY: it for it in rows if it.month == month and it.slots}
+    last = {row.after // DAY: row for row in rows if row.month == month and row.slots}
     bars = [_bar(day, it) for day, it in sorted(last.items())]
     return Chart(bars, max(DAYS, max(last, default=0) + 1) * WIDE)
 
 
-def _bar(day: int, it: Seen) -> Bar:
+def _bar(day: int, sighting: Seen) -> Bar:
     """The bar of a day."""
-    height = round(HIGH * it.priced / it.slots, 1)
-    return Bar(day + 1, f"{100 * it.priced / it.slots:.1f}", day * WIDE, round(HIGH - height, 1), height)
+    height = round(HIGH * sighting.priced / sighting.slots, 1)
+    return Bar(day + 1, f"{100 * sighting.priced / sighting.slots:.1f}", day * WIDE, round(HIGH - height, 1), height)

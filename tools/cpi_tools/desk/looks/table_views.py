@@ -211,41 +211,41 @@ def show(month: str) -> Response:
     named = {"month": month, "running": desk().trials.running, "fault": desk().trials.fault(number)}
     if found is None:
         return page("table.html", found=None, since=None, track=None, codes=[], **named)
-    track = charts.track([it.points for it in found.report.divisions])
-    codes = {str(row[0]) for it in found.report.sections if it.key == "table" for row in it.rows}
+    track = charts.track([division.points for division in found.report.divisions])
+    codes = {str(row[0]) for section in found.report.sections if section.key == "table" for row in section.rows}
     links = {code: flask.url_for("table.explain", month=month, code=code) for code in codes}
     return page("table.html", found=found, since=since_before(number, found), track=track, links=links, **named)
 
 
-def since_before(month: int, found: Tried) -> Optional[Section]:
+def since_before(month: int, trial: Tried) -> Optional[Section]:
     """The nodes that differ from the table of an earlier day; None if none was kept."""
-    earlier = desk().tables.before(month, found.at)
-    if earlier is None or not found.report.table:
+    earlier = desk().tables.before(month, trial.at)
+    if earlier is None or not trial.report.table:
         return None
     kept = desk().since.get(month)
-    if kept is None or kept[0] is not found or kept[1] != earlier:
-        desk().since[month] = kept = (found, earlier, differences(earlier, found))
+    if kept is None or kept[0] is not trial or kept[1] != earlier:
+        desk().since[month] = kept = (trial, earlier, differences(earlier, trial))
     return kept[2]
 
 
-def differences(earlier: Earlier, found: Tried) -> Section:
+def differences(earlier: Earlier, trial: Tried) -> Section:
     """The nodes of the table of an earlier day and of one that was tried now that differ."""
-    day, tables = of_others(earlier.day), (earlier.table, found.report.table)
+    day, tables = of_others(earlier.day), (earlier.table, trial.report.table)
     # t: the heading of a column: a figure of an earlier day, such as 2026-02-17
     heads = (lambda name: _("{day}: {head}", day=day, head=name)), (lambda name: _("now: {head}", head=name))
     title, empty = _("What changed since {day}", day=day), _("Nothing: the tables are the same.")
-    return beside("since", title, tables, heads, found.report.levels, empty)
+    return beside("since", title, tables, heads, trial.report.levels, empty)
 
 
 @views.get("/month/<month>/table/<key>.csv")
 def file(month: str, key: str) -> Response:
     """A section of the report, or the bytes that will be published if no quote changes."""
-    found = desk().trials.latest(month_of(month))
-    if found is None:
+    file = desk().trials.latest(month_of(month))
+    if file is None:
         flask.abort(404)
-    if key == "provisional" and found.report.table:
-        return csv_file(file_name(month, key), found.report.table.decode())
-    for section in found.report.sections:
+    if key == "provisional" and file.report.table:
+        return csv_file(file_name(month, key), file.report.table.decode())
+    for section in file.report.sections:
         if section.key == key:
             return section_file(month, section)
     flask.abort(404)
@@ -258,27 +258,31 @@ def explain(month: str, code: str) -> Response:
     if found is None or not found.report.table:
         return flask.redirect(flask.url_for("table.show", month=month))
     with read_copy(found.copy) as office:
-        it = explain_node(Sources(office, month_of(month), None, desk().teller.money() or Money(1)), code)
-    it = with_levels(it, found.report.levels)
-    return page("explained.html", month=month, it=it, found=found, shown=LINES_SHOWN)
+        node = explain_node(Sources(office, month_of(month), None, desk().teller.money() or Money(1)), code)
+    node = with_levels(node, found.report.levels)
+    return page("explained.html", month=month, it=node, found=found, shown=LINES_SHOWN)
 
 
-def with_levels(it: Explanation, levels: Optional[Levels]) -> Explanation:
+def with_levels(explanation: Explanation, levels: Optional[Levels]) -> Explanation:
     """An explanation that names levels by their periods, the website's period first."""
     if levels is None:
-        return it
-    chained = [Figure(levels.chained_name, figure.text) for figure in it.figures[:1]]
-    level = levels.of(it.code, digits=LEVEL_DIGITS)
+        return explanation
+    chained = [Figure(levels.chained_name, figure.text) for figure in explanation.figures[:1]]
+    level = levels.of(explanation.code, digits=LEVEL_DIGITS)
     if not level:
         sentence = _("The level in these sentences is the {name}.", name=levels.chained_name)
-        return it._replace(figures=[*chained, *it.figures[1:]], sentences=[*it.sentences, sentence])
+        return explanation._replace(
+            figures=[*chained, *explanation.figures[1:]], sentences=[*explanation.sentences, sentence]
+        )
     sentence = _(
         "The level in these sentences is the {name}; it is a {level}.",
         name=levels.chained_name,
-        level=_("{name}: {level}", name=levels.name, level=FigureText(levels.of(it.code))),
+        level=_("{name}: {level}", name=levels.name, level=FigureText(levels.of(explanation.code))),
     )
     own = Figure(levels.name, FigureText(level))
-    return it._replace(figures=[own, *chained, *it.figures[1:]], sentences=[*it.sentences, sentence])
+    return explanation._replace(
+        figures=[own, *chained, *explanation.figures[1:]], sentences=[*explanation.sentences, sentence]
+    )
 
 
 @views.get("/month/<month>/what-if")

@@ -53,9 +53,9 @@ def imputed_parts(facts: Facts, codes: Iterable[str]) -> tuple[int, int]:
     imputed share of what its series count as."""
     parts = weight = 0
     for code in codes:
-        carried = [facts.carried_prices[it] for it in facts.samples[code]]
-        moved = sum(it.ticks for it in carried if it.imputed)
-        parts += facts.rows[code].weight * moved * 10**6 // sum(it.ticks for it in carried)
+        carried = [facts.carried_prices[sample] for sample in facts.samples[code]]
+        moved = sum(price.ticks for price in carried if price.imputed)
+        parts += facts.rows[code].weight * moved * 10**6 // sum(price.ticks for price in carried)
         weight += facts.rows[code].weight
     return parts, weight
 
@@ -71,8 +71,8 @@ def report_imputed(facts: Facts) -> Section:
     rows: list[list[Cell]] = []
     for division in sorted({code[:2] for code in facts.samples}):
         codes = [code for code in facts.samples if code[:2] == division]
-        series = [facts.carried_prices[it] for code in codes for it in facts.samples[code]]
-        count = sum(it.imputed for it in series)
+        series = [facts.carried_prices[sample] for code in codes for sample in facts.samples[code]]
+        count = sum(price.imputed for price in series)
         counts: list[Cell] = [len(series), count, percent(count, len(series))]
         weight = facts.rows[division].weight
         rows.append([division, facts.title(division), *counts, weight, imputed_percent(facts, codes)])
@@ -90,7 +90,7 @@ def carry(facts: Facts, codes: Iterable[str]) -> Section:
     for code in codes:
         sample = facts.samples.get(code, [])
         then, now = (marks_of(sample, quotes) for quotes in (facts.frozen_before, facts.frozen))
-        outlets = {facts.holder[it].outlet for it in sample}
+        outlets = {facts.holder[sample].outlet for sample in sample}
         rows.append([code, facts.title(code), facts.rows[code].weight, len(sample), len(outlets), then, now])
     note = message(
         "No price in these aggregates can be compared with the previous month: the"
@@ -121,9 +121,9 @@ def carry_series(facts: Facts, codes: Iterable[str]) -> Section:
 
 def homogeneity(facts: Facts) -> Section:
     """Dutot and Jevons for each aggregate, the widest gap of the year first."""
-    found = [(code, sample, *pairs_of(facts, code, sample)) for code, sample in facts.samples.items()]
+    pairs = [(code, sample, *pairs_of(facts, code, sample)) for code, sample in facts.samples.items()]
     rows: list[list[Cell]] = []
-    for code, sample, month, year in sorted(found, key=lambda it: -abs(gap(it[3]) or 0)):
+    for code, sample, month, year in sorted(pairs, key=lambda pair: -abs(gap(pair[3]) or 0)):
         ticks = [facts.carried_prices[it].ticks for it in sample]
         spread = decimal(max(ticks), min(ticks), 1)
         rows.append([code, facts.title(code), len(sample), len(month), spread, *means(month), *means(year)])
@@ -143,8 +143,8 @@ def homogeneity(facts: Facts) -> Section:
 def pairs_of(facts: Facts, code: str, sample: Sequence[Series]) -> tuple[Pairs, Pairs]:
     """The matched series' values, compared with the month before; and the whole sample, compared with its bases."""
     now, then, bases = facts.carried_prices, facts.counted_before, facts.bases
-    month = [(now[it].ticks, then[it]) for it in facts.find_matches(code) if it in then]
-    return month, [(now[it].ticks, bases[it]) for it in sample if it in bases]
+    month = [(now[match].ticks, then[match]) for match in facts.find_matches(code) if match in then]
+    return month, [(now[series].ticks, bases[series]) for series in sample if series in bases]
 
 
 def gap(pairs: Pairs) -> Optional[int]:
@@ -277,10 +277,10 @@ def closing_lines(
 ) -> Iterator[str]:
     """The note on a month that is closed: which table comes out too early, who decided what and why, which codes need
     no place on the list though they may be carried, and what its table will be."""
-    yield from (f"Warning: {it}" for it in closed.early)
-    for it in decisions:
-        yield f"carried: {it.code} {it.title}; {it.because}{f'; decided by {by}' if by else ''}"
-    for code in sorted({*(allowed or ())} - {it.code for it in decisions}):
+    yield from (f"Warning: {early_release}" for early_release in closed.early)
+    for decision in decisions:
+        yield f"carried: {decision.code} {decision.title}; {decision.because}{f'; decided by {by}' if by else ''}"
+    for code in sorted({*(allowed or ())} - {decision.code for decision in decisions}):
         yield f"not carried: {code}; the freeze isn't refused for it"
     yield (
         f"{month_text(closed.month)}, revision {closed.revision}: {write_count(closed.rows, 'row')}, {closed.priced:,} of"

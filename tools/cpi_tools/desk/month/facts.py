@@ -162,7 +162,7 @@ def levels_now(
 def others_listed(office_copy: Path, month: int) -> set[tuple[str, int]]:
     """The latest tables that a copy has of all months but one: month like `2026-01`, and revision. Raises Fault."""
     with read_copy(office_copy) as office:
-        latest = {it.month: it.revision for it in office.releases() if it.month != month}
+        latest = {release.month: release.revision for release in office.releases() if release.month != month}
     return {(month_text(each), revision) for each, revision in latest.items()}
 
 
@@ -226,7 +226,9 @@ class Facts:
         """`levels` name the period of levels, if the caller has them."""
         self.office, self.month, self.levels = office, month, levels
         self.assignments = office.assignments()
-        self.slots = sorted(it for it in self.assignments if it.first_month <= month <= it.last_month)
+        self.slots = sorted(
+            assignment for assignment in self.assignments if assignment.first_month <= month <= assignment.last_month
+        )
         self.quotes = office.quotes(month)
         self.last = office.last_prices(month)
         self.outlets, self.keys = office.outlets(), office.keys()
@@ -243,13 +245,13 @@ class Facts:
 
     # ---- what the survey says
 
-    def quote(self, it: Assignment) -> Optional[Quote]:
+    def quote(self, assignment: Assignment) -> Optional[Quote]:
         """A slot's quote, None if nothing was sent."""
-        return self.quotes.get(it[:2])
+        return self.quotes.get(assignment[:2])
 
-    def is_priced(self, it: Assignment) -> bool:
+    def is_priced(self, assignment: Assignment) -> bool:
         """Whether a slot has a stored price."""
-        quote = self.quote(it)
+        quote = self.quote(assignment)
         return quote is not None and quote.mark in OBSERVED
 
     def code(self, item: str) -> str:
@@ -262,29 +264,34 @@ class Facts:
 
     def item(self, code: str) -> str:
         """An item with its unit."""
-        it = self.items[code]
+        item = self.items[code]
         # t: an item and its unit: Rice, long grain, 1 kg
-        return message("{item}, {unit}", item=of_others(it.text), unit=of_others(it.unit))
+        return message("{item}, {unit}", item=of_others(item.text), unit=of_others(item.unit))
 
-    def place_cells(self, it: Assignment) -> list[str]:
+    def place_cells(self, assignment: Assignment) -> list[str]:
         """Slot, aggregate, item and outlet."""
-        return [slot_text(it[:2]), self.code(it.item), self.item(it.item), self.outlets[it.outlet]]
+        return [
+            slot_text(assignment[:2]),
+            self.code(assignment.item),
+            self.item(assignment.item),
+            self.outlets[assignment.outlet],
+        ]
 
     @cached_property
     def holder(self) -> dict[Series, Assignment]:
         """The holder of each series in the month, or its last one."""
-        found: dict[Series, Assignment] = {}
-        for it in self.assignments:
-            if it.first_month <= self.month or it.series not in found:
-                found[it.series] = it
-        return found
+        assignments: dict[Series, Assignment] = {}
+        for assignment in self.assignments:
+            if assignment.first_month <= self.month or assignment.series not in assignments:
+                assignments[assignment.series] = assignment
+        return assignments
 
     @cached_property
     def ratios(self) -> list[Ratio]:
         """The comparable prices of slots that have a last price."""
-        pairs = ((it, self.quotes.get(it[:2]), self.last.get(it[:2])) for it in self.slots)
-        known = [(it, quote, last) for it, quote, last in pairs if quote and last]
-        return [Ratio(it, last, quote.value) for it, quote, last in known if quote.mark in COMPARABLE]
+        pairs = ((slot, self.quotes.get(slot[:2]), self.last.get(slot[:2])) for slot in self.slots)
+        known = [(pair, quote, last) for pair, quote, last in pairs if quote and last]
+        return [Ratio(pair, last, quote.value) for pair, quote, last in known if quote.mark in COMPARABLE]
 
     # ---- what the program froze
 
@@ -312,10 +319,10 @@ class Facts:
     @cached_property
     def samples(self) -> dict[str, list[Series]]:
         """The sample of each aggregate."""
-        found: dict[str, list[Series]] = defaultdict(list)
-        for series, it in self.carried_prices.items():
-            found[self.code(it.item)].append(series)
-        return dict(sorted(found.items()))
+        lists: dict[str, list[Series]] = defaultdict(list)
+        for series, price in self.carried_prices.items():
+            lists[self.code(price.item)].append(series)
+        return dict(sorted(lists.items()))
 
     @cached_property
     def frozen(self) -> dict[Series, Frozen]:
@@ -351,7 +358,7 @@ class Facts:
     def comparable(self, code: str) -> list[Series]:
         """The series of an aggregate's sample that have a comparable price."""
         now = self.frozen
-        return [it for it in self.samples.get(code, []) if it in now and now[it].mark in COMPARABLE]
+        return [sample for sample in self.samples.get(code, []) if sample in now and now[sample].mark in COMPARABLE]
 
     def find_matches(self, code: str) -> list[Series]:
         """Those of them that were observed in the month before too."""

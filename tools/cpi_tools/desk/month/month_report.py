@@ -50,12 +50,12 @@ def heads_of(facts: Facts) -> tuple[Column, ...]:
     """The headings of the table; the headings of levels name their period, if it is known."""
     if facts.levels is None:
         return HEADS
-    found = [*HEADS]
+    heads = [*HEADS]
     link = month_name_of(link_month(facts.month))
-    found[INDEX] = Column(message("index, {december} = 100", december=link), NUMBER)
-    found[BEFORE : LEVEL + 1] = [Column(facts.levels.name_before, NUMBER), Column(facts.levels.name, NUMBER)]
+    heads[INDEX] = Column(message("index, {december} = 100", december=link), NUMBER)
+    heads[BEFORE : LEVEL + 1] = [Column(facts.levels.name_before, NUMBER), Column(facts.levels.name, NUMBER)]
     chained = [Column(facts.levels.chained_name, NUMBER)] if facts.levels.has_reference else []
-    return (*found[:-1], *chained, found[-1])
+    return (*heads[:-1], *chained, heads[-1])
 
 
 # t: one letter that marks an imputed row
@@ -103,13 +103,13 @@ def levels_of_row(facts: Facts, code: str, then: Optional[int], now: int) -> tup
 
 def table(facts: Facts) -> Section:
     """The whole table, and what left the plan within a year."""
-    found = (row_of(facts, code) for code in (facts.tables.titles if facts.tables else ()))
+    cells = (row_of(facts, code) for code in (facts.tables.titles if facts.tables else ()))
     note = message(
         "Contributions are in percentage points of the change in all items. The file {file} contains the table byte"
         " for byte.",
         file="provisional.csv",
     )
-    rows = [row for row in found if row]
+    rows = [row for row in cells if row]
     return Section(
         "table",
         message("The whole table"),
@@ -245,7 +245,7 @@ def report_with(cpi: Cpi, office_copy: Path, tried: OnCopy, facts: Facts, asked:
     now(message("counting"))
     sections = sections_of(facts, asked, frozen, left)
     report = gather(facts, asked, state, sections, tried.fault, frozen.table if frozen else b"")
-    return report._replace(warnings=[it.warning() for it in tried.early])
+    return report._replace(warnings=[early_release.warning() for early_release in tried.early])
 
 
 def sections_of(facts: Facts, asked: Asked, frozen: Optional[Frozen], left: Sequence[unusual.Left]) -> list[Section]:
@@ -330,10 +330,14 @@ def lead(facts: Facts, is_frozen: bool) -> Optional[Message]:
     top = facts.all_items
     if top is None:
         return None
-    month, annual = (Figure(tenths(it).replace("-", "\u2212")) for it in (top.month_change, top.year_change))
+    month, annual = (Figure(tenths(change).replace("-", "\u2212")) for change in (top.month_change, top.year_change))
     level = facts.levels.figure(top.chained, ALL_ITEMS) if facts.levels else Figure(points(top.chained, 1))
     named: dict[str, str] = {"level": level, "month": month}
-    most = [it for it in sorted(divisions(facts), key=lambda it: -abs(it.points))[:2] if it.points]
+    most = [
+        division
+        for division in sorted(divisions(facts), key=lambda division: -abs(division.points))[:2]
+        if division.points
+    ]
     first = changes(is_frozen, {**named, "annual": annual} if annual else named)
     return sentences(first, of_most(most)) if most else first
 
@@ -377,13 +381,13 @@ def of_most(most: Sequence[Division]) -> Message:
 
 def divisions(facts: Facts) -> list[Division]:
     """Each division's contribution to the month's change of all items."""
-    found = []
+    divisions = []
     for code in facts.rows:
         given = to_month(facts, code) if depth_of(code) == 1 else None
         if given:
             text = with_sign(decimal(*given, 3))
-            found.append(Division(code, facts.title(code), text, given.over / given.under))
-    return found
+            divisions.append(Division(code, facts.title(code), text, given.over / given.under))
+    return divisions
 
 
 def index_cards(facts: Facts) -> list[Card]:
@@ -407,7 +411,7 @@ def index_cards(facts: Facts) -> list[Card]:
 
 def survey_cards(facts: Facts, sections: Sequence[Section]) -> list[Card]:
     """Of the survey."""
-    count, rows = response.in_all(facts), {it.key: len(it.rows) for it in sections}
+    count, rows = response.in_all(facts), {section.key: len(section.rows) for section in sections}
     share = f"{response.percent(count.with_price, count.slots) or '0.0'}{PERCENT}"
     # t: slots with a price; short
     return [
@@ -430,7 +434,7 @@ def survey_cards(facts: Facts, sections: Sequence[Section]) -> list[Card]:
 
 def of_slots(facts: Facts, count: response.Count) -> Message:
     """The number of slots with a price, and their share by weight if there is one."""
-    by_weight = response.weighted_percent(facts, {facts.code(it.item) for it in facts.slots})
+    by_weight = response.weighted_percent(facts, {facts.code(slot.item) for slot in facts.slots})
     named = {"priced": whole(count.with_price), "slots": whole(count.slots)}
     if not by_weight:
         return message("{priced} of {slots} slots", **named)
@@ -441,8 +445,8 @@ def aggregate_cards(facts: Facts, sections: Sequence[Section]) -> list[Card]:
     """Of the aggregates."""
     if facts.all_items is None:
         return []
-    rows = {it.key: len(it.rows) for it in sections}
-    count = sum(it.imputed for it in facts.carried_prices.values())
+    rows = {section.key: len(section.rows) for section in sections}
+    count = sum(price.imputed for price in facts.carried_prices.values())
     share = f"{closing.imputed_percent(facts, facts.samples)}{PERCENT}"
     return [
         Card(share, message("imputed, by weight"), message("{count} series", count=whole(count))),
@@ -457,8 +461,10 @@ FOLDED = ("table", "silent", "homogeneity", "carry-series", "outlets")
 
 def text_of_report(report: Report) -> str:
     """The report for a terminal: its cards, and the first rows of its sections."""
-    warnings = [f"Warning: {it}" for it in report.warnings]
+    warnings = [f"Warning: {warning}" for warning in report.warnings]
     head = [f"{report.month} at {report.at}: {report.standing}", *([report.lead] if report.lead else []), *warnings]
-    cards = [f"  {it.figure:>9}  {it.name}{f' ({it.word})' if it.word else ''}" for it in report.cards]
-    parts = [text_of(it, 16 if it.key == "top" else 8) for it in report.sections if it.key not in FOLDED]
+    cards = [f"  {card.figure:>9}  {card.name}{f' ({card.word})' if card.word else ''}" for card in report.cards]
+    parts = [
+        text_of(section, 16 if section.key == "top" else 8) for section in report.sections if section.key not in FOLDED
+    ]
     return "\n\n".join(["\n".join([*head, *cards]), *parts])

@@ -71,21 +71,23 @@ RESPONSE = heads("#slots", "#priced", "#percent", "#comparable", "#other", "#mis
 
 def counts(facts: Facts, key: Callable[[Assignment], Key]) -> dict[Key, Count]:
     """The counts of the slots by something of them, in its order."""
-    found: dict[Key, Count] = defaultdict(Count)
-    for it in facts.slots:
-        found[key(it)].add(facts.quote(it))
-    return dict(sorted(found.items()))
+    counts: dict[Key, Count] = defaultdict(Count)
+    for slot in facts.slots:
+        counts[key(slot)].add(facts.quote(slot))
+    return dict(sorted(counts.items()))
 
 
 def in_all(facts: Facts) -> Count:
     """The count of all slots."""
-    return counts(facts, lambda it: 0).get(0, Count())
+    return counts(facts, lambda fact: 0).get(0, Count())
 
 
 def weigh(facts: Facts, codes: Iterable[str]) -> tuple[int, int]:
     """Parts of the plan's weight that are priced, in millionths, and the weight in all: each aggregate by the share of
     its slots that have a price."""
-    return weighted_by(counts(facts, lambda it: facts.code(it.item)), facts.plan.weights if facts.plan else {}, codes)
+    return weighted_by(
+        counts(facts, lambda fact: facts.code(fact.item)), facts.plan.weights if facts.plan else {}, codes
+    )
 
 
 def weighted_by(by_code: Mapping[str, Count], weights: Mapping[str, int], codes: Iterable[str]) -> tuple[int, int]:
@@ -111,15 +113,17 @@ def most_silent(rows: list[list[Cell]]) -> list[list[Cell]]:
 
 def by_collector(facts: Facts) -> Section:
     """The response by collector."""
-    rows: list[list[Cell]] = [[number, *it.cells()] for number, it in counts(facts, lambda it: it.collector).items()]
+    rows: list[list[Cell]] = [
+        [number, *count.cells()] for number, count in counts(facts, lambda fact: fact.collector).items()
+    ]
     names, note = columns("#collector", *RESPONSE), message("Those with the most slots without a response come first.")
     return Section("collectors", message("Response by collector"), note, names, most_silent(rows))
 
 
 def by_outlet(facts: Facts) -> Section:
     """The response by outlet."""
-    found = counts(facts, lambda it: it.outlet)
-    rows: list[list[Cell]] = [[number, facts.outlets[number], *it.cells()] for number, it in found.items()]
+    found = counts(facts, lambda fact: fact.outlet)
+    rows: list[list[Cell]] = [[number, facts.outlets[number], *count.cells()] for number, count in found.items()]
     names, note = columns("#outlet", "name", *RESPONSE), message(
         "Those with the most slots without a response come first."
     )
@@ -128,11 +132,11 @@ def by_outlet(facts: Facts) -> Section:
 
 def by_division(facts: Facts) -> Section:
     """The response by division, by weight too."""
-    found = counts(facts, lambda it: facts.code(it.item)[:2])
-    codes = {facts.code(it.item) for it in facts.slots} - {NO_PLACE}
+    found = counts(facts, lambda fact: facts.code(fact.item)[:2])
+    codes = {facts.code(slot.item) for slot in facts.slots} - {NO_PLACE}
     rows: list[list[Cell]] = [
-        [code, facts.title(code), *it.cells(), weighted_percent(facts, [each for each in codes if each[:2] == code])]
-        for code, it in found.items()
+        [code, facts.title(code), *count.cells(), weighted_percent(facts, [each for each in codes if each[:2] == code])]
+        for code, count in found.items()
     ]
     note = message(
         "A slot counts in the division in which the year's plan places its item. The percentage by weight multiplies"
@@ -144,11 +148,11 @@ def by_division(facts: Facts) -> Section:
 
 def by_reason(facts: Facts) -> Section:
     """The entries for missing prices, by division and reason."""
-    found = counts(facts, lambda it: facts.code(it.item)[:2])
+    found = counts(facts, lambda fact: facts.code(fact.item)[:2])
     rows: list[list[Cell]] = [
-        [code, facts.title(code), *(it.marks[reason] for reason in REASONS), it.missing]
-        for code, it in found.items()
-        if it.missing
+        [code, facts.title(code), *(count.marks[reason] for reason in REASONS), count.missing]
+        for code, count in found.items()
+        if count.missing
     ]
     names = columns("=division", "title", *(f"#{reason}" for reason in REASONS), "#all")
     note = message("These reasons were sent for slots without a price.")
@@ -161,7 +165,9 @@ PLACE = heads("slot", "=aggregate", "item", "outlet")
 def silent(facts: Facts) -> Section:
     """The slots for which nothing was sent."""
     rows: list[list[Cell]] = [
-        [*facts.place_cells(it), price_of(facts.last.get(it[:2]))] for it in facts.slots if facts.quote(it) is None
+        [*facts.place_cells(slot), price_of(facts.last.get(slot[:2]))]
+        for slot in facts.slots
+        if facts.quote(slot) is None
     ]
     note = message("Nothing was sent for these slots. The freeze counts them as missing.")
     names, empty = columns(*PLACE, "#last price"), message("Something was sent for every slot.")
@@ -176,12 +182,12 @@ def long_missing(facts: Facts) -> Section:
     """Slots without a price now and in the month before, with the month in which their series was observed last."""
     before, seen = month_before(facts.month), facts.office.months_of_last_prices(facts.month)
     rows: list[list[Cell]] = []
-    for it in facts.slots:
-        quote, last = facts.quote(it), seen.get(it.series, 0)
-        is_new = it.first_month == facts.month and it.series == it[:2]
-        if not facts.is_priced(it) and last < before and not is_new:
+    for slot in facts.slots:
+        quote, last = facts.quote(slot), seen.get(slot.series, 0)
+        is_new = slot.first_month == facts.month and slot.series == slot[:2]
+        if not facts.is_priced(slot) and last < before and not is_new:
             now = mark_words(quote.mark if quote else SILENT)
-            rows.append([*facts.place_cells(it), now, month_of(last) if last else NEVER])
+            rows.append([*facts.place_cells(slot), now, month_of(last) if last else NEVER])
     rows.sort(key=lambda row: (row[-1] != NEVER, str(row[-1])))
     note = message(
         "These slots have no price in this month or in the previous one. Ask for a"
@@ -193,7 +199,7 @@ def long_missing(facts: Facts) -> Section:
 
 def report_gone(facts: Facts) -> Section:
     """Slots whose latest word is `gone`: nothing took the place of what went."""
-    rows: list[list[Cell]] = [[*facts.place_cells(it), month_of(month)] for it, month in gone_slots(facts)]
+    rows: list[list[Cell]] = [[*facts.place_cells(slot), month_of(month)] for slot, month in gone_slots(facts)]
     note = message("The last entry for these slots is 'gone', and no replacement has come since.")
     names = columns(*PLACE, "sent for")
     return Section("gone", message("Gone without a replacement"), note, names, rows, is_open=False)
@@ -202,22 +208,22 @@ def report_gone(facts: Facts) -> Section:
 def gone_slots(facts: Facts) -> Iterator[tuple[Assignment, int]]:
     """Each of them, and the month of the word."""
     latest = facts.office.latest_quotes(facts.month)
-    for it in facts.slots:
-        month, mark = latest.get(it[:2], (0, ""))
+    for slot in facts.slots:
+        month, mark = latest.get(slot[:2], (0, ""))
         if mark == "gone":
-            yield it, month
+            yield slot, month
 
 
 def replacements(facts: Facts) -> Section:
     """The prices of replacements."""
     rows: list[list[Cell]] = []
-    for it in facts.slots:
-        quote = facts.quote(it)
+    for slot in facts.slots:
+        quote = facts.quote(slot)
         if quote and quote.mark in ("comparable", "other"):
-            carried = facts.carried_prices.get(it.series)
+            carried = facts.carried_prices.get(slot.series)
             scale = decimal(carried.knum, carried.kden * 10_000, 4) if carried else ""
-            last, price = price_of(facts.last.get(it[:2])), Price(quote.value)
-            rows.append([*facts.place_cells(it), last, mark_words(quote.mark), price, scale])
+            last, price = price_of(facts.last.get(slot[:2])), Price(quote.value)
+            rows.append([*facts.place_cells(slot), last, mark_words(quote.mark), price, scale])
     note = message(
         "A replacement marked 'other' enters the index without moving it; its scale shows what one unit of its price"
         " counts as."
@@ -247,10 +253,10 @@ LOOKED_AT = 2 * QUARTER + 1
 
 def months_until(month: int, count: int) -> list[int]:
     """A month and those before it, the latest first."""
-    found = [month]
-    while len(found) < count:
-        found.append(month_before(found[-1]))
-    return found
+    months = [month]
+    while len(months) < count:
+        months.append(month_before(months[-1]))
+    return months
 
 
 def matched_in(facts: Facts, month: int) -> set[str]:
@@ -258,8 +264,8 @@ def matched_in(facts: Facts, month: int) -> set[str]:
     release, plan = facts.latest[month], facts.plans[month // 100]
     now, then = (facts.office.frozen(facts.latest[each]) for each in (month, month_before(month)))
     sample = facts.office.read_carried(release)
-    compared = [it for it in sample if it in now and now[it].mark in COMPARABLE]
-    return {plan.places[sample[it].item] for it in compared if it in then and then[it].mark in OBSERVED}
+    compared = [series for series in sample if series in now and now[series].mark in COMPARABLE]
+    return {plan.places[sample[series].item] for series in compared if series in then and then[series].mark in OBSERVED}
 
 
 def unmatched_codes(facts: Facts) -> list[str]:
@@ -313,12 +319,12 @@ def quarterly_rows(facts: Facts) -> Iterator[list[Cell]]:
     """A row for each slot whose series was priced every third month only."""
     looked_at = months_until(facts.month, LOOKED_AT)
     observed = facts.office.months_observed(looked_at[-1], looked_at[0])
-    for it in facts.slots:
-        months = observed.get(it.series, [])
+    for slot in facts.slots:
+        months = observed.get(slot.series, [])
         if is_quarterly(months):
             number = number_of(months[-1]) + QUARTER
             due = month_of(number // 12 * 100 + number % 12 + 1)
-            yield [*facts.place_cells(it), " ".join(map(month_text, months)), due]
+            yield [*facts.place_cells(slot), " ".join(map(month_text, months)), due]
 
 
 def quarterly(facts: Facts) -> Section:

@@ -52,7 +52,7 @@ def estimates(facts: Facts, code: str) -> Iterator[tuple[int, Series]]:
     """The estimated effect of each comparable quote of an aggregate on all items, in millionths of a point."""
     now, then, sample = facts.carried_prices, facts.counted_before, facts.samples[code]
     matched = set(facts.find_matches(code))
-    up, down = sum(now[it].ticks for it in matched), sum(then[it] for it in matched)
+    up, down = sum(now[match].ticks for match in matched), sum(then[match] for match in matched)
     moved = sum(then[it] for it in sample if now[it].imputed)
     scale = facts.rows[code].weight * 10**8
     base = sum(facts.bases[it] for it in sample) * facts.rows[ALL_ITEMS].weight
@@ -69,21 +69,21 @@ def estimates(facts: Facts, code: str) -> Iterator[tuple[int, Series]]:
 
 def candidates(facts: Facts, count: int) -> list[Series]:
     """The quotes that move all items most, by the estimate."""
-    found = [each for code in facts.samples for each in estimates(facts, code)]
-    return [series for _, series in sorted(found, key=lambda it: (-abs(it[0]), it[1]))[:count]]
+    samples = [each for code in facts.samples for each in estimates(facts, code)]
+    return [series for _, series in sorted(samples, key=lambda sample: (-abs(sample[0]), sample[1]))[:count]]
 
 
 def rounds_of(facts: Facts, chosen: Sequence[Series]) -> list[Round]:
     """The chosen quotes, in as few freezes as have one of each aggregate at most."""
-    found: list[Round] = []
+    rounds: list[Round] = []
     for series in chosen:
         code = facts.code(facts.carried_prices[series].item)
-        free = next((each for each in found if code not in each), None)
+        free = next((each for each in rounds if code not in each), None)
         if free is None:
-            found.append({code: series})
+            rounds.append({code: series})
         else:
             free[code] = series
-    return found
+    return rounds
 
 
 # ---- the freezes
@@ -107,12 +107,14 @@ class Trial(NamedTuple):
 
 def left_out(facts: Facts, trial: Trial, count: int) -> list[Left]:
     """The `count` most influential quotes, each left out, the greatest effect first."""
-    rounds, found = rounds_of(facts, candidates(facts, count)), list[Left]()
+    rounds, remainders = rounds_of(facts, candidates(facts, count)), list[Left]()
     for start in range(0, len(rounds), trial.room):
         with private_copy(trial.copy) as copy, trial.cpi.session(copy) as session:
             for turn, each in enumerate(rounds[start : start + trial.room]):
-                found += left_of(facts, each, rows_without(session, facts, trial, each, turn))
-    return sorted(found, key=lambda it: (-abs(facts.rows[ALL_ITEMS].within - it.all_items), it.series))
+                remainders += left_of(facts, each, rows_without(session, facts, trial, each, turn))
+    return sorted(
+        remainders, key=lambda remainder: (-abs(facts.rows[ALL_ITEMS].within - remainder.all_items), remainder.series)
+    )
 
 
 def rows_without(session: Session, facts: Facts, trial: Trial, each: Round, turn: int) -> Mapping[str, Row]:
@@ -134,8 +136,8 @@ def rows_without(session: Session, facts: Facts, trial: Trial, each: Round, turn
 
 def quote_record(facts: Facts, window: Window, series: Series, *sent: object) -> Record:
     """The record that the collector of a series in the month sends for it."""
-    it = facts.holder[series]
-    return [window.opens, facts.keys[it.collector], "quote", it.slot, month_text(window.month), *sent]
+    record = facts.holder[series]
+    return [window.opens, facts.keys[record.collector], "quote", record.slot, month_text(window.month), *sent]
 
 
 def left_of(facts: Facts, each: Round, without: Mapping[str, Row]) -> Iterator[Left]:
@@ -160,13 +162,18 @@ CARRIED = message("carried")
 def influence(facts: Facts, left: Sequence[Left]) -> Section:
     """The quotes that were left out, and what they move."""
     rows: list[list[Cell]] = []
-    for it in left:
-        last = facts.last.get(facts.holder[it.series][:2])
-        price = [price_of(last), Price(facts.frozen[it.series].value)]
-        moves = [facts.rows[ALL_ITEMS].within - it.all_items, facts.rows[it.code].within - it.aggregate]
+    for remainder in left:
+        last = facts.last.get(facts.holder[remainder.series][:2])
+        price = [price_of(last), Price(facts.frozen[remainder.series].value)]
+        moves = [
+            facts.rows[ALL_ITEMS].within - remainder.all_items,
+            facts.rows[remainder.code].within - remainder.aggregate,
+        ]
         moved = [decimal(each, 10**6, digits) for each, digits in zip(moves, (4, 2))]
-        alone = CARRIED if facts.find_matches(it.code) == [it.series] else ""
-        rows.append([*facts.place_cells(facts.holder[it.series]), *price, points(it.all_items), *moved, alone])
+        alone = CARRIED if facts.find_matches(remainder.code) == [remainder.series] else ""
+        rows.append(
+            [*facts.place_cells(facts.holder[remainder.series]), *price, points(remainder.all_items), *moved, alone]
+        )
     note = message(
         "The program froze the month once for each of these quotes, without that quote. The columns show the index of"
         " all items without the quote, and by how many points the quote moves all items and its aggregate. The note"
@@ -216,7 +223,7 @@ def fences_of(ratios: Sequence[int], width: int = PERCENT_OF_WIDTH) -> Optional[
     aside = len(ratios) // TWENTIETH
     kept = sorted(ratios)[aside : len(ratios) - aside]
     middle = Fraction(sum(kept), len(kept))
-    below, above = [it for it in kept if it < middle], [it for it in kept if it > middle]
+    below, above = [ratio for ratio in kept if ratio < middle], [ratio for ratio in kept if ratio > middle]
     if not below or not above:
         return Fences(middle, middle)
     low, high = (Fraction(sum(part), len(part)) for part in (below, above))
@@ -224,9 +231,9 @@ def fences_of(ratios: Sequence[int], width: int = PERCENT_OF_WIDTH) -> Optional[
     return Fences(middle - times * (middle - low), middle + times * (high - middle))
 
 
-def in_ten_thousandths(it: Ratio) -> int:
+def in_ten_thousandths(ratio: Ratio) -> int:
     """A ratio of two prices."""
-    return round_ratio(ONE * it.price, it.last)
+    return round_ratio(ONE * ratio.price, ratio.last)
 
 
 # t: why a price is to be looked at again
@@ -277,16 +284,16 @@ class Usual:
                 return
 
 
-def is_within_tolerance(facts: Facts, it: Ratio) -> bool:
+def is_within_tolerance(facts: Facts, ratio: Ratio) -> bool:
     """Whether a price lies within its item's tolerance of the last price. One that doesn't was confirmed."""
-    item = facts.items[it.slot.item]
-    return -(-it.last * item.low // 1000) <= it.price <= it.last * item.high // 1000
+    item = facts.items[ratio.slot.item]
+    return -(-ratio.last * item.low // 1000) <= ratio.price <= ratio.last * item.high // 1000
 
 
-def why_unusual(facts: Facts, usual: Usual, it: Ratio) -> list[Message]:
+def why_unusual(facts: Facts, usual: Usual, ratio: Ratio) -> list[Message]:
     """Why a price needs another check, if it does."""
-    confirmed = [] if is_within_tolerance(facts, it) else [CONFIRMED]
-    return [*confirmed, *usual.why_not(facts.code(it.slot.item), in_ten_thousandths(it))]
+    confirmed = [] if is_within_tolerance(facts, ratio) else [CONFIRMED]
+    return [*confirmed, *usual.why_not(facts.code(ratio.slot.item), in_ten_thousandths(ratio))]
 
 
 def to_look_at(facts: Facts, width: int) -> list[Unusual]:
@@ -298,11 +305,11 @@ def to_look_at(facts: Facts, width: int) -> list[Unusual]:
 def _unusual(facts: Facts, width: int) -> Iterator[Unusual]:
     usual = Usual(facts, width)
     alone = {facts.find_matches(code)[0] for code in facts.samples if len(facts.find_matches(code)) == 1}
-    for it in facts.ratios:
-        why = why_unusual(facts, usual, it)
-        why += [ALONE] if it.slot.series in alone and len(facts.samples[facts.code(it.slot.item)]) > 1 else []
+    for ratio in facts.ratios:
+        why = why_unusual(facts, usual, ratio)
+        why += [ALONE] if ratio.slot.series in alone and len(facts.samples[facts.code(ratio.slot.item)]) > 1 else []
         if why:
-            yield Unusual(it.slot, it.last, it.price, why)
+            yield Unusual(ratio.slot, ratio.last, ratio.price, why)
 
 
 def _find_replaced(facts: Facts) -> Iterator[Unusual]:
@@ -314,16 +321,16 @@ def _find_replaced(facts: Facts) -> Iterator[Unusual]:
 
 def outliers(facts: Facts, width: int) -> Section:
     """The prices to check, the greatest changes first."""
-    greatest = sorted(to_look_at(facts, width), key=lambda it: -_change(it))
+    greatest = sorted(to_look_at(facts, width), key=lambda unusual_price: -_change(unusual_price))
     rows: list[list[Cell]] = [
         [
-            *facts.place_cells(it.slot),
-            None if it.last is None else Price(it.last),
-            Price(it.price),
-            it.percent,
-            row(it.why),
+            *facts.place_cells(unusual_price.slot),
+            None if unusual_price.last is None else Price(unusual_price.last),
+            Price(unusual_price.price),
+            unusual_price.percent,
+            row(unusual_price.why),
         ]
-        for it in greatest
+        for unusual_price in greatest
     ]
     note = message(
         "A price outside its item's tolerance is stored only if it was confirmed. The fences are Tukey's, computed"
@@ -336,6 +343,10 @@ def outliers(facts: Facts, width: int) -> Section:
     return Section("outliers", message("Prices to look at"), note, names, rows)
 
 
-def _change(it: Unusual) -> int:
+def _change(unusual_price: Unusual) -> int:
     """The distance of a price from the last one, in ten-thousandths; less than 0 if they can't be compared."""
-    return abs(in_ten_thousandths(Ratio(it.slot, it.last, it.price)) - ONE) if it.percent and it.last else -1
+    return (
+        abs(in_ten_thousandths(Ratio(unusual_price.slot, unusual_price.last, unusual_price.price)) - ONE)
+        if unusual_price.percent and unusual_price.last
+        else -1
+    )

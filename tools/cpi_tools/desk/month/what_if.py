@@ -140,8 +140,10 @@ class Moments:
         """The first table to come out, by the calendar, that will be computed from a month: its moment, its month, and
         what can be computed from it."""
         rows = [it for it in self.calendar.values() if it.month > month and it.month not in self.released]
-        found = [(it.publishes, it.month, self.ways(it.month)[month]) for it in rows if month in self.ways(it.month)]
-        return min(found, default=None)
+        matching_rows = [
+            (row.publishes, row.month, self.ways(row.month)[month]) for row in rows if month in self.ways(row.month)
+        ]
+        return min(matching_rows, default=None)
 
 
 def early_tables(office: StoredOffice, state: State, at: int) -> list[Early]:
@@ -151,12 +153,12 @@ def early_tables(office: StoredOffice, state: State, at: int) -> list[Early]:
     later_moment = message("Before {table} is frozen, set a later release time for it.", table=month_of(month))
     if state.is_frozen:
         revision, publishes = moments.latest(month)
-        found = [
+        early_releases = [
             *moments.find_unpublished(month, moments.released[month][1], at, message("This can no longer be changed."))
         ]
     else:
         revision, publishes = state.revision + 1, max(state.window.publishes, at)
-        found = [*moments.find_unpublished(month, publishes, at, later_moment)]
+        early_releases = [*moments.find_unpublished(month, publishes, at, later_moment)]
     following = moments.next_out(month)
     if following and following[0] < publishes and publishes > at:
         first, later, way = following
@@ -168,8 +170,8 @@ def early_tables(office: StoredOffice, state: State, at: int) -> list[Early]:
                 "Before {table} is frozen, set a later release time for it, or an earlier one for {base}.", **named
             )
         )
-        found.append(Early(later, first, month, revision, publishes, way, remedy))
-    return found
+        early_releases.append(Early(later, first, month, revision, publishes, way, remedy))
+    return early_releases
 
 
 def until_when(office: StoredOffice, month: int) -> Optional[str]:
@@ -233,7 +235,7 @@ def what_if(cpi: Cpi, office_copy: Path, month: int, at: int, tried: Tried) -> B
 
 def quotes_of(office: StoredOffice, window: Window, tried: Tried) -> Iterator[Record]:
     """The records that the collectors would send, within the window. Raises NotTried if nobody has such a slot."""
-    keys, known = office.keys(), {it[:2] for it in office.assignments()}
+    keys, known = office.keys(), {assignment[:2] for assignment in office.assignments()}
     sent: list[tuple[Place, list[object]]] = [(place, ["missing", tried.reason]) for place in tried.missing]
     sent += [(place, ["price", price, "confirm"]) for place, price in tried.prices]
     for place, fields in sent:

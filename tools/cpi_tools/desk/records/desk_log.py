@@ -107,9 +107,18 @@ def entries_of(data: bytes, name: str) -> Iterator[Entry]:
 def _entry(line: bytes) -> Optional[tuple[str, Entry]]:
     """The sum and the entry of a line; None if it isn't whole."""
     try:
-        it = json.loads(line)
-        given = [it["number"], it["at"], it["by"], it["what"], it["records"], it["of"], it["replies"], it["text"]]
-        return it["before"], Entry(*given)
+        entry = json.loads(line)
+        given = [
+            entry["number"],
+            entry["at"],
+            entry["by"],
+            entry["what"],
+            entry["records"],
+            entry["of"],
+            entry["replies"],
+            entry["text"],
+        ]
+        return entry["before"], Entry(*given)
     except (ValueError, LookupError, TypeError):
         return None
 
@@ -187,8 +196,8 @@ class DeskLog:
 
     def open_entries(self) -> list[Entry]:
         """The records that were sent, and whose result isn't known."""
-        settled = {it.of for it in self.entries if it.what in (ANSWERED, NOT_SENT, LOOKED_UP)}
-        return [it for it in self.entries if it.what == SENT and it.number not in settled]
+        settled = {entry.of for entry in self.entries if entry.what in (ANSWERED, NOT_SENT, LOOKED_UP)}
+        return [entry for entry in self.entries if entry.what == SENT and entry.number not in settled]
 
     def close(self) -> None:
         """Lets another process have it."""

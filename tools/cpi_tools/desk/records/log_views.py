@@ -59,34 +59,36 @@ class Line(NamedTuple):
 
 def lines_of(entries: list[Entry]) -> list[Line]:
     """A line for each record and each step, in their order."""
-    settled = {it.of: it for it in entries if it.what in (ANSWERED, LOOKED_UP, NOT_SENT)}
-    found = list[Line]()
-    for it in entries:
-        if it.what == SENT:
-            end = settled.get(it.number)
-            names = names_in(it.records)
-            for place, fields in enumerate(it.records):
+    settled = {entry.of: entry for entry in entries if entry.what in (ANSWERED, LOOKED_UP, NOT_SENT)}
+    lines = list[Line]()
+    for entry in entries:
+        if entry.what == SENT:
+            end = settled.get(entry.number)
+            names = names_in(entry.records)
+            for place, fields in enumerate(entry.records):
                 if end is not None and end.what == NOT_SENT:
                     answer = _("not sent: {line}", line=own_line(end.text))
                 else:
                     answer = record_reply(fields, end.replies[place] if end else None).answer
-                found.append(Line(it.number, it.at, it.by, of_others(line_of(fields)), answer, fields, names))
-        elif it.what not in (ANSWERED, LOOKED_UP, NOT_SENT):
+                lines.append(Line(entry.number, entry.at, entry.by, of_others(line_of(fields)), answer, fields, names))
+        elif entry.what not in (ANSWERED, LOOKED_UP, NOT_SENT):
             # (the file has it in English)
-            found.append(Line(it.number, it.at, it.by, own_line(it.text), STEPS.get(it.what, it.what)))
-    return found
+            lines.append(
+                Line(entry.number, entry.at, entry.by, own_line(entry.text), STEPS.get(entry.what, entry.what))
+            )
+    return lines
 
 
 def search(lines: list[Line], query: str, teller: Teller = ENGLISH) -> list[Line]:
     """The lines that have each word of a query somewhere, in English or as the page says it."""
     words = query.casefold().split()
 
-    def text_of(it: Line) -> str:
+    def text_of(line: Line) -> str:
         return " ".join(
-            map(str, [*it.cells, *map(teller.render, (moment_of(it.at), it.answer, it.says or ""))])
+            map(str, [*line.cells, *map(teller.render, (moment_of(line.at), line.answer, line.says or ""))])
         ).casefold()
 
-    return [it for it in lines if all(word in text_of(it) for word in words)]
+    return [line for line in lines if all(word in text_of(line) for word in words)]
 
 
 @views.get("/log")
@@ -110,7 +112,7 @@ def file() -> Response:
         out.writerow(["number", "moment", "who", "record or step", "answer"])
         query = flask.request.args.get("query", "")
         lines = search(lines_of([*desk().log.entries]), query, desk().teller)
-        out.writerows(it.cells for it in lines)
+        out.writerows(line.cells for line in lines)
     return csv_file("desk-log.csv", text.getvalue())
 
 

@@ -47,12 +47,12 @@ class NotRead(Fault):
 def records_of(text: str, clock: Clock) -> list[list[str]]:
     """The records of a text, without moment and caller, one a line; empty lines aside. A civil time of the calendar is
     the moment at which the office's clock shows it. Raises NotRead."""
-    found = list[list[str]]()
+    records = list[list[str]]()
     rows = csv.reader(text.splitlines(keepends=True), strict=True)
     try:
         for fields in rows:
             if fields:
-                found.append(at_clock(_looked_at(fields, rows.line_num), clock))
+                records.append(at_clock(_looked_at(fields, rows.line_num), clock))
     except csv.Error as fault:
         line = whole(rows.line_num)
         raise NotRead(
@@ -61,17 +61,17 @@ def records_of(text: str, clock: Clock) -> list[list[str]]:
                 line=line,
             )
         ) from fault
-    if len(found) > MOST_RECORDS:
-        places = {"count": whole(len(found)), "most": whole(MOST_RECORDS)}
+    if len(records) > MOST_RECORDS:
+        places = {"count": whole(len(records)), "most": whole(MOST_RECORDS)}
         raise NotRead(_("There are {count} records: at most {most} can be sent at once.", **places))
-    if not found:
+    if not records:
         raise NotRead(
             _(
                 "There are no records: write one record per line, such as {example}.",
                 example=of_others("outlet,10,Corner shop"),
             )
         )
-    return found
+    return records
 
 
 def _looked_at(fields: list[str], line: int) -> list[str]:
@@ -93,7 +93,7 @@ def _looked_at(fields: list[str], line: int) -> list[str]:
 def clock_warnings(text: str, clock: Clock) -> list[Message]:
     """The warnings of windows in a text whose times the clock leaves out or has twice, which `records_of` read."""
     rows = csv.reader(text.splitlines(keepends=True), strict=True)
-    return [it for fields in rows if fields for it in window_faults(fields, clock)]
+    return [fault for fields in rows if fields for fault in window_faults(fields, clock)]
 
 
 def at_clock(fields: list[str], clock: Clock) -> list[str]:
@@ -128,7 +128,7 @@ def judge(cpi: Cpi, office_copy: Path, records: Sequence[Sequence[str]]) -> Judg
     with private_copy(office_copy) as copy:
         replies = _replies(cpi, copy, records, now)
         set_now = {it[1] for it, reply in zip(records, replies) if it[0] == "calendar" and reply.get("done")}
-        warnings = {str(it): it for it in _warnings(copy, sorted(set_now), now)} if set_now else {}
+        warnings = {str(warning): warning for warning in _warnings(copy, sorted(set_now), now)} if set_now else {}
         return Judged(replies, [*warnings.values()])
 
 
@@ -136,28 +136,28 @@ def _replies(cpi: Cpi, copy: Path, records: Sequence[Sequence[str]], now: int) -
     """The replies to records on a copy, in imports, so that the copy is written a few times, and not for each record."""
     parts = [records[at : at + MOST_ROWS] for at in range(0, len(records), MOST_ROWS)]
     asked = [record(now, "desk", "import", "".join(f"{record(*fields)}\n" for fields in part)) for part in parts]
-    found = list[Reply]()
+    replies = list[Reply]()
     for part, reply in zip(parts, cpi.replay(asked, db=copy)):
-        found += reply.get("rows", [reply] * len(part))
-    return found
+        replies += reply.get("rows", [reply] * len(part))
+    return replies
 
 
 def _warnings(office_copy: Path, months: Sequence[str], now: int) -> Iterator[Message]:
     """The warnings on some months of an office."""
     with read_copy(office_copy) as office:
         for month in months:
-            yield from (it.warning() for it in early_tables(office, state_of(office, a_month(month)), now))
+            yield from (table.warning() for table in early_tables(office, state_of(office, a_month(month)), now))
 
 
 def lines_of(text: str) -> list[int]:
     """The line of a text at which each of its records begins, counted from 1."""
-    found, begun = list[int](), 1
+    lines, begun = list[int](), 1
     rows = csv.reader(text.splitlines(keepends=True), strict=True)
     for fields in rows:
         if fields:
-            found.append(begun)
+            lines.append(begun)
         begun = rows.line_num + 1
-    return found
+    return lines
 
 
 # ==== the text of a form that takes records: a chosen file, or typed text

@@ -69,7 +69,7 @@ def names_of(office: StoredOffice, records: Sequence[Fields], listed: Sequence[F
     own = names_in(records)
     items = {it.code: (it.text, it.unit) for it in office.items()}
     outlets = {str(number): name for number, name in office.outlets().items()}
-    slots = {place: found for place in slots_in(listed) for found in [slot_of(office, place)] if found}
+    slots = {place: slot for place in slots_in(listed) for slot in [slot_of(office, place)] if slot}
     return Names({**items, **own.items}, {**outlets, **own.outlets}, {**slots, **own.slots})
 
 

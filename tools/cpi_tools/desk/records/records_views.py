@@ -67,32 +67,34 @@ def judge() -> Response:
     """The answer that the office would give to each record. The form contains records in `text`, or in `file`, or a
     record's `word` with each argument in a `field`, or the `year` and rows of a plan."""
     try:
-        found = read_given()
+        given_value = read_given()
     except Fault as fault:
         form = flask.request.form
         plan = (form.get("year", ""), form.get("text", "")) if form.get("word") == PLAN else None
         return records_page(400, text="" if plan else form.get("text", ""), plan=plan, fault=says(fault))
     try:
-        records = records_of(found.text, desk().given.clock)
+        records = records_of(given_value.text, desk().given.clock)
         with desk().copies_now() as copy:
             replies, warnings = judge_on_copy(desk().cpi, copy.path, records)
             with read_copy(copy.path) as office:
                 stood = what_stands(office, records)
-                rows = [Row(*it) for it in zip(lines_of(found.text), map(record_reply, records, replies), records)]
+                rows = [
+                    Row(*it) for it in zip(lines_of(given_value.text), map(record_reply, records, replies), records)
+                ]
                 listed = explain_rows(office, choose_rows(rows), records)
     except Fault as fault:
-        kept = "" if found.plan or len(found.text) > MOST_SHOWN_BYTES else found.text
-        return records_page(400, text=kept, plan=found.plan, fault=says(fault), file=found.file)
+        kept = "" if given_value.plan or len(given_value.text) > MOST_SHOWN_BYTES else given_value.text
+        return records_page(400, text=kept, plan=given_value.plan, fault=says(fault), file=given_value.file)
     good = [each for each, row in zip(zip(records, stood), rows) if row.reply.is_done]
     bad = [row for row in rows if not row.reply.is_done]
     offer = Offer([fields for fields, _stood in good], [each for _fields, each in good])
     came = {
-        "text": "" if found.plan else "".join(f"{row.reply.record}\n" for row in bad),
-        "plan": found.plan if bad else None,
+        "text": "" if given_value.plan else "".join(f"{row.reply.record}\n" for row in bad),
+        "plan": given_value.plan if bad else None,
         "rows": listed,
         "good": len(good),
         "bad": len(bad),
-        "warnings": [*clock_warnings(found.text, desk().given.clock), *warnings],
+        "warnings": [*clock_warnings(given_value.text, desk().given.clock), *warnings],
         "offer": desk().offers.keep(session().person, offer) if good else "",
     }
     return after("records.show", came)
@@ -154,11 +156,11 @@ def show_sent() -> Response:
 
 def pair_replies(records: Sequence[Sequence[str]], replies: Sequence[Optional[Reply]]) -> list[RecordReply]:
     """The messages about records and their replies: after a message without a reply, nothing more was sent."""
-    waiting = {tuple(it) for entry in desk().log.open_entries() for it in entry.records}
-    found = list[RecordReply]()
+    waiting = {tuple(record) for entry in desk().log.open_entries() for record in entry.records}
+    record_replies = list[RecordReply]()
     for fields, reply in zip(records, replies):
         is_open = reply is None and tuple(fields) in waiting
-        found.append(
+        record_replies.append(
             record_reply(fields, reply) if is_open or reply is not None else record_reply(fields, reply, NOT_SENT)
         )
-    return found
+    return record_replies

@@ -33,8 +33,8 @@ class Kind(NamedTuple):
 
 
 KINDS: dict[str, Kind] = {
-    it.name: it
-    for it in (
+    kind.name: kind
+    for kind in (
         Kind("items", "item", FIELDS["item"]),
         Kind("outlets", "outlet", FIELDS["outlet"]),
         Kind("collectors", "collector", FIELDS["collector"], optional="key"),
@@ -63,8 +63,8 @@ def column_of(kind: Kind, head: str) -> str:
     plain = "_".join(head.replace("_", " ").casefold().split())
     if plain in kind.columns:
         return plain
-    found = kind.columns[0] if plain == NUMBER else OTHER_NAMES.get(plain, "")
-    return found if found in kind.columns else ""
+    column = kind.columns[0] if plain == NUMBER else OTHER_NAMES.get(plain, "")
+    return column if column in kind.columns else ""
 
 
 # ==== The bounds of an item, as changes from the last price: `−45 %` and `+90 %`. A record has them in thousandths of
@@ -265,17 +265,17 @@ def read_pasted(text: str, kind: Kind) -> Pasted:
 
 def lines_of(text: str, kind: Kind) -> tuple[list[Line], str]:
     """The lines that aren't empty, by the separator with which most of them have the cells that are wanted."""
-    found = [it for it in SEPARATORS if it in text]
+    separators = [separator for separator in SEPARATORS if separator in text]
     best: Optional[tuple[list[Line], str]] = None
     fault: Optional[NotRead] = None
     most = -1
-    for separator in found or [","]:
+    for separator in separators or [","]:
         try:
             lines = split(text, separator)
         except NotRead as cause:
             fault = fault or cause
             continue
-        fit = sum(len(without_ends(it.cells, len(kind.columns))) in widths(kind) for it in lines)
+        fit = sum(len(without_ends(line.cells, len(kind.columns))) in widths(kind) for line in lines)
         if lines and is_heading(names_in(lines[0], kind), kind):
             fit = len(lines) + 1
         if fit > most:
@@ -289,23 +289,23 @@ def lines_of(text: str, kind: Kind) -> tuple[list[Line], str]:
 def split(text: str, separator: str) -> list[Line]:
     """The lines of a text by one separator. Raises NotRead at a quotation mark that isn't closed."""
     rows = csv.reader(text.splitlines(keepends=True), delimiter=separator, strict=True)
-    found = list[Line]()
+    lines = list[Line]()
     try:
         for cells in rows:
-            if any(it.strip() for it in cells):
-                found.append(Line(rows.line_num, [it.strip() for it in cells]))
+            if any(cell.strip() for cell in cells):
+                lines.append(Line(rows.line_num, [cell.strip() for cell in cells]))
     except csv.Error as fault:
         line = whole(rows.line_num)
         raise NotRead(_("Line {line} can't be read as CSV: check its quotation marks.", line=line)) from fault
-    return found
+    return lines
 
 
 def without_ends(cells: Sequence[str], most: int) -> list[str]:
     """The cells without empty ones at the end, as far as there are more than `most`: a spreadsheet has them."""
-    found = [*cells]
-    while len(found) > most and not found[-1]:
-        found.pop()
-    return found
+    ends = [*cells]
+    while len(ends) > most and not ends[-1]:
+        ends.pop()
+    return ends
 
 
 def widths(kind: Kind) -> tuple[int, ...]:
@@ -331,7 +331,7 @@ def names_in(line: Line, kind: Kind) -> list[str]:
 
 def needed_of(kind: Kind) -> list[str]:
     """The columns that have to be there."""
-    return [it for it in kind.columns if it != kind.optional]
+    return [column for column in kind.columns if column != kind.optional]
 
 
 def is_heading(names: Sequence[str], kind: Kind) -> bool:
@@ -349,7 +349,7 @@ def heading_of(line: Line, kind: Kind) -> Optional[Heading]:
         raise NotRead(
             _("Line {line} is a heading without {columns}: it contains {read}.", line=whole(line.number), **places)
         )
-    if twice := [it for it in kind.columns if names.count(it) > 1]:
+    if twice := [column for column in kind.columns if names.count(column) > 1]:
         places = {"line": whole(line.number), "column": of_others(twice[0])}
         raise NotRead(_("Line {line} is a heading that contains {column} twice: rename one of the two.", **places))
     return Heading(names, line.cells)
@@ -364,11 +364,11 @@ def cells_of(line: Line, kind: Kind, names: Optional[Sequence[str]], separator: 
     if names is None:
         names = kind.columns
         if kind.optional and len(cells) == len(names) - 1:
-            names = [it for it in names if it != kind.optional]
+            names = [name for name in names if name != kind.optional]
     if len(cells) != len(names):
         raise NotRead(wrong_width(line.number, cells, names, separator))
     by_name = {name: cell for name, cell in zip(names, cells) if name}
-    return [_read(by_name.get(it, ""), it in kind.months) for it in kind.columns]
+    return [_read(by_name.get(column, ""), column in kind.months) for column in kind.columns]
 
 
 def wrong_width(line: int, cells: Sequence[str], names: Sequence[str], separator: str) -> Message:
@@ -380,7 +380,7 @@ def wrong_width(line: int, cells: Sequence[str], names: Sequence[str], separator
         line=whole(line),
         separator=SEPARATORS[separator],
         read=list_names(map(quote_text, cells[:MOST_SHOWN])),
-        columns=list_names(it or "-" for it in names),
+        columns=list_names(name or "-" for name in names),
     )
 
 

@@ -70,10 +70,10 @@ class Record(NamedTuple):
 def records_of(tray: Tray, kind: Kind, rows: Sequence[Waiting], office: StoredOffice, clock: Clock) -> list[Record]:
     """The records of rows: with the slots and keys that nobody gave, and with moments by the office's clock."""
     if kind.name == COLLECTORS:
-        return [_with_key(tray, kind, it) for it in rows]
+        return [_with_key(tray, kind, row) for row in rows]
     if has_bounds(kind):
-        return [_with_bounds(kind, it) for it in rows]
-    cells = [[*it.cells] for it in rows]
+        return [_with_bounds(kind, row) for row in rows]
+    cells = [[*row.cells] for row in rows]
     if kind.optional:
         fill_slots(kind, cells, office)
     return [Record(row, at_clock([kind.word, *own], clock)) for row, own in zip(rows, cells)]
@@ -111,18 +111,18 @@ def fill_slots(kind: Kind, rows: Sequence[list[str]], office: StoredOffice) -> N
 def judge(desk: Desk, person: str, kind: Kind) -> None:
     """Judges all rows of a person's tray again, together and in their order. Raises Fault."""
     settle(desk, person, kind)
-    rows = [it for it in desk.tray.rows(person, kind.name) if it.state != GOING]
+    rows = [row for row in desk.tray.rows(person, kind.name) if row.state != GOING]
     if not rows:
         return
     with desk.copies_now() as copy:
         with read_copy(copy.path) as office:
             records = records_of(desk.tray, kind, rows, office, desk.given.clock)
-            stood = what_stands(office, [it.fields for it in records])
-        asked = [it.fields for it in records if not it.fault]
+            stood = what_stands(office, [record.fields for record in records])
+        asked = [record.fields for record in records if not record.fault]
         replies = iter(judge_records(desk.cpi, copy.path, asked))
     changed = {
-        it.row.number: _judge_record(it, None if it.fault else next(replies))._replace(stood=before)
-        for it, before in zip(records, stood)
+        record.row.number: _judge_record(record, None if record.fault else next(replies))._replace(stood=before)
+        for record, before in zip(records, stood)
     }
     desk.tray.change(person, kind.name, changed)
 
@@ -140,12 +140,12 @@ def _judge_record(it: Record, reply: Optional[Reply]) -> Waiting:
 
 def sum_of_rows(rows: Sequence[Waiting]) -> str:
     """A sum of rows as they were given, so that nobody drops or mends others than the page showed."""
-    return sum_of([[it.number, it.cells] for it in rows])
+    return sum_of([[row.number, row.cells] for row in rows])
 
 
 def state_of(rows: Sequence[Waiting]) -> str:
     """A sum of the rows that would be sent, so that only rows are sent that somebody saw."""
-    seen = [line_of([it.number, *it.record]) for it in rows if it.state == GOOD]
+    seen = [line_of([row.number, *row.record]) for row in rows if row.state == GOOD]
     return hashlib.sha256("\n".join(seen).encode()).hexdigest()
 
 
@@ -164,27 +164,27 @@ def send(desk: Desk, session: Session, kind: Kind, seen: str) -> Sent:
     """Sends the rows that the copy would carry out, if `seen` is their sum. Raises Fault if nothing was sent."""
     with desk.tray.lock:
         all_rows = desk.tray.rows(session.person, kind.name)
-        rows = [it for it in all_rows if it.state == GOOD]
+        rows = [row for row in all_rows if row.state == GOOD]
         if not rows or state_of(all_rows) != seen:
             raise NotAsSeen(
                 _("These rows were already sent, or have changed since they were shown: see the current state.")
             )
-        if others := replaced_since([it.record for it in rows], [it.stood for it in rows]):
+        if others := replaced_since([row.record for row in rows], [row.stood for row in rows]):
             raise NotAsSeen(others)
-        records = [_for_office(desk.tray, kind, it) for it in rows]
+        records = [_for_office(desk.tray, kind, row) for row in rows]
         since = desk.log.entries[-1].number if desk.log.entries else 0
-        going = {it.number: it._replace(state=GOING, reply=None, why=NO_REPLY_YET, since=since) for it in rows}
+        going = {row.number: row._replace(state=GOING, reply=None, why=NO_REPLY_YET, since=since) for row in rows}
         desk.tray.change(session.person, kind.name, going)
     try:
         replies = desk.send(session, records)
     except Fault as fault:
-        changed = {it.number: it._replace(reply=None, why=str(fault)) for it in rows}
+        changed = {row.number: row._replace(reply=None, why=str(fault)) for row in rows}
         desk.tray.change(session.person, kind.name, changed)
         raise
-    waiting = {tuple(it) for entry in desk.log.open_entries() for it in entry.records}
+    waiting = {tuple(record) for entry in desk.log.open_entries() for record in entry.records}
     after = {row.number: _after(row, since, reply, waiting) for row, reply in zip(rows, replies)}
     desk.tray.change(session.person, kind.name, after)
-    return Sent(len(rows), sum(it is None for it in after.values()))
+    return Sent(len(rows), sum(waiting_item is None for waiting_item in after.values()))
 
 
 def _for_office(tray: Tray, kind: Kind, row: Waiting) -> list[str]:
@@ -213,10 +213,10 @@ def _after(row: Waiting, since: int, reply: Optional[Reply], waiting: set[tuple[
 
 def settle(desk: Desk, person: str, kind: Kind) -> None:
     """Finds in the log the results of rows that were on their way; those that were carried out go. Raises Fault."""
-    going = [it for it in desk.tray.rows(person, kind.name) if it.state == GOING]
+    going = [row for row in desk.tray.rows(person, kind.name) if row.state == GOING]
     if going:
         entries = [*desk.log.entries]
-        changed = {it.number: found_in_log(it, entries) for it in going}
+        changed = {row.number: found_in_log(row, entries) for row in going}
         desk.tray.change(person, kind.name, changed)
 
 
@@ -252,20 +252,26 @@ class FreeSlots:
     """The slots of an office's collectors, and the slots that have been given out since; all as texts."""
 
     def __init__(self, office: StoredOffice, collectors: Iterable[str]):
-        numbers = sorted({int(it) for it in collectors if it.isdecimal() and len(it) < MOST_DIGITS})
+        numbers = sorted(
+            {int(collector) for collector in collectors if collector.isdecimal() and len(collector) < MOST_DIGITS}
+        )
         self._taken: dict[str, set[str]] = defaultdict(set)
         self._assigned: dict[Sequence[str], list[str]] = defaultdict(list)
         self._handed: dict[Sequence[str], list[str]] = defaultdict(list)
         self._series: dict[Sequence[str], tuple[str, str]] = {}
         last = last_months_of(office, numbers)
-        for it in slots_of(office, numbers):
-            collector, slot, series = str(it.collector), str(it.slot), (str(it.series[0]), str(it.series[1]))
+        for assignment in slots_of(office, numbers):
+            collector, slot, series = (
+                str(assignment.collector),
+                str(assignment.slot),
+                (str(assignment.series[0]), str(assignment.series[1])),
+            )
             self._taken[collector].add(slot)
             self._series[collector, slot] = series
-            first = month_text(it.first_month)
+            first = month_text(assignment.first_month)
             if series == (collector, slot):
-                ends = month_text(last[it.series])
-                self._assigned[collector, str(it.outlet), it.item, first, ends].append(slot)
+                ends = month_text(last[assignment.series])
+                self._assigned[collector, str(assignment.outlet), assignment.item, first, ends].append(slot)
             else:
                 self._handed[collector, *series, first].append(slot)
 

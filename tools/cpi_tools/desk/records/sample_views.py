@@ -110,7 +110,7 @@ def show_result(
     waiting = desk().tray.rows(session().person, kind.name)
     page_rows = shown_waiting(waiting)
     chosen = flask.request.args.get("mend", "") or flask.request.form.get("instead", "").replace(" ", ",")
-    mended = [it for it in waiting if str(it.number) in chosen.split(",")]
+    mended = [row for row in waiting if str(row.number) in chosen.split(",")]
     named: dict[str, Any] = {
         "kind": kind,
         "kinds": KINDS,
@@ -121,8 +121,8 @@ def show_result(
         "waiting_rows": page_rows,
         "waiting_first": number_in("waiting"),
         "waiting_count": len(waiting),
-        "good": sum(it.state == GOOD for it in waiting),
-        "refused_numbers": ",".join(str(it.number) for it in waiting if it.state == REFUSED),
+        "good": sum(row.state == GOOD for row in waiting),
+        "refused_numbers": ",".join(str(row.number) for row in waiting if row.state == REFUSED),
         "seen": state_of(waiting),
         "answer_of": answer_of,
         "cells_shown": cells_shown,
@@ -130,10 +130,10 @@ def show_result(
         "clock_faults": [[*window_faults([kind.word, *row.cells], desk().given.clock)] for row in page_rows],
         "mended": mended[0] if len(mended) == 1 else None,
         "cells": cells_of(kind, typed, mended),
-        "instead": " ".join(str(it.number) for it in mended),
+        "instead": " ".join(str(row.number) for row in mended),
         "mended_rows": mended,
         "sum_of_rows": sum_of_rows,
-        "all_shown": sum_of_rows([it for it in waiting if it.state != GOING]),
+        "all_shown": sum_of_rows([row for row in waiting if row.state != GOING]),
         "text": text or (text_of(kind, mended) if len(mended) > 1 else ""),
         "zone": desk().given.clock.spoken_name,
         "asked": still_asked() if kind.name == CALENDAR else None,
@@ -146,8 +146,8 @@ def show_result(
 def cells_of(kind: Kind, typed: Optional[Mapping[str, str]], mended: Sequence[Waiting]) -> list[str]:
     """The cells of the form's row: those that a person filled in and that weren't accepted, or those of the one row
     that is being corrected."""
-    if typed and any(it in typed for it in kind.columns):
-        return [typed.get(it, "") for it in kind.columns]
+    if typed and any(column in typed for column in kind.columns):
+        return [typed.get(column, "") for column in kind.columns]
     return mended[0].cells if len(mended) == 1 else [""] * len(kind.columns)
 
 
@@ -180,7 +180,7 @@ def windows(office: StoredOffice) -> Shown:
 def cut_of(kind: Kind) -> dict[str, str]:
     """The values to which the address cuts a list down, by their columns."""
     columns = LISTINGS[kind.name].cut_by if kind.name in LISTINGS else ()
-    return {it: flask.request.args[it] for it in columns if flask.request.args.get(it)}
+    return {column: flask.request.args[column] for column in columns if flask.request.args.get(column)}
 
 
 def cells_shown(kind: Kind, row: Waiting) -> list[str]:
@@ -205,30 +205,30 @@ def sentences_of(kind: Kind, rows: Sequence[Waiting]) -> list[Optional[Message]]
 def shown_waiting(rows: Sequence[Waiting]) -> list[Waiting]:
     """The waiting rows of a page, those first that want somebody's hand."""
     start = number_in("waiting")
-    return sorted(rows, key=lambda it: ORDER.index(it.state))[start : start + SHOWN]
+    return sorted(rows, key=lambda row: ORDER.index(row.state))[start : start + SHOWN]
 
 
 def text_of(kind: Kind, rows: Sequence[Waiting]) -> str:
     """Waiting rows as a text to correct, with a heading."""
-    return "".join(f"{line_of(cells)}\n" for cells in [kind.columns, *(it.cells for it in rows)])
+    return "".join(f"{line_of(cells)}\n" for cells in [kind.columns, *(row.cells for row in rows)])
 
 
 @views.get("/sample/<kind>.csv")
 def file(kind: str) -> Response:
     """All rows that a search finds, as a file that can be pasted back; keys of collectors aren't in it."""
-    it = kind_of(kind)
-    if it.name not in LISTINGS:
+    file = kind_of(kind)
+    if file.name not in LISTINGS:
         flask.abort(404)
     with desk().copies_now() as copy, read_copy(copy.path) as office:
-        found = found_in(office, it.name, flask.request.args.get("query", ""), cut_of(it))
-    columns, rows, text = LISTINGS[it.name].columns, rows_of(it, found), io.StringIO()
-    if has_bounds(it):
+        found = found_in(office, file.name, flask.request.args.get("query", ""), cut_of(file))
+    columns, rows, text = LISTINGS[file.name].columns, rows_of(file, found), io.StringIO()
+    if has_bounds(file):
         rows = [bounds_in_file(columns, row) for row in rows]
     with formulas_told("", True):
         out = Writer(text)
         out.writerow(columns)
         out.writerows(rows)
-    return csv_file(f"{it.name}-{time.strftime('%Y-%m-%d', time.gmtime())}.csv", text.getvalue())
+    return csv_file(f"{file.name}-{time.strftime('%Y-%m-%d', time.gmtime())}.csv", text.getvalue())
 
 
 # ---- forms
@@ -262,25 +262,25 @@ def judge_rows(kind: str) -> Response:
 
 def rows_in_fields(kind: Kind) -> list[list[str]]:
     """The rows of a form that has a field for each column; a row in which only the month was given isn't a row."""
-    columns = [[each.strip() for each in flask.request.form.getlist(it)] for it in kind.columns]
+    columns = [[each.strip() for each in flask.request.form.getlist(column)] for column in kind.columns]
     if len({*map(len, columns)}) > 1:
         # (a row without one of its cells is no row of this form)
         flask.abort(400)
     rows = [[*row] for row in zip(*columns)]
-    return [row for row in rows if any(cell for it, cell in zip(kind.columns, row) if it != "month")]
+    return [row for row in rows if any(cell for column, cell in zip(kind.columns, row) if column != "month")]
 
 
 @views.post("/sample/<kind>/send")
 def send_rows(kind: str) -> Response:
     """Sends the rows that the page showed as good."""
-    it = kind_of(kind)
+    rows = kind_of(kind)
     try:
-        sent = send(desk(), session(), it, field("seen"))
+        sent = send(desk(), session(), rows, field("seen"))
     except NotAsSeen as fault:
-        return show_result(it, 409, says(fault))
+        return show_result(rows, 409, says(fault))
     except Fault as fault:
-        return show_result(it, 503, _("Nothing was sent: {fault}", fault=says(fault)))
-    return after("sample.show", {"answer": told_sent(sent)}, kind=it.name)
+        return show_result(rows, 503, _("Nothing was sent: {fault}", fault=says(fault)))
+    return after("sample.show", {"answer": told_sent(sent)}, kind=rows.name)
 
 
 def told_sent(sent: Sent) -> Message:

@@ -73,7 +73,7 @@ def _look(cpi: Cpi, copy: Path, fields: Sequence[str], since: int) -> Reply:
 def is_frozen_since(office: StoredOffice, fields: Sequence[str], since: int) -> bool:
     """Whether the latest release of a month was frozen with this carry list, not before a moment."""
     month = a_month(fields[1])
-    releases = [it for it in office.releases() if it.month == month]
+    releases = [release for release in office.releases() if release.month == month]
     if not releases:
         return False
     frozen_at, _ = office.frozen_moments()[month, releases[-1].revision]
@@ -94,15 +94,15 @@ def what_stands(office: StoredOffice, records: Sequence[Sequence[str]]) -> list[
     if not any(fields[0] in REPLACED for fields in records):
         return [""] * len(records)
     windows = {month_text(it.month): ",".join(map(str, it[1:])) for it in office.calendar()}
-    plans, references = {str(it.year): it for it in office.plans()}, office.references()
+    plans, references = {str(plan.year): plan for plan in office.plans()}, office.references()
 
     def of(fields: Sequence[str]) -> str:
         if fields[0] not in REPLACED or len(fields) < 2:
             return ""
         if fields[0] == CALENDAR:
             return windows.get(fields[1], "")
-        found = plans.get(fields[1])
-        return sum_of([str(found), references.get(found.year, 0)]) if found else ""
+        plan = plans.get(fields[1])
+        return sum_of([str(plan), references.get(plan.year, 0)]) if plan else ""
 
     return [of(fields) for fields in records]
 
@@ -208,7 +208,9 @@ class Tray:
         with self.lock:
             last, all_rows = self._read()
             before = all_rows.get(f"{who(person)}\n{kind}", [])
-            own, gone = [it for it in before if it.number not in instead], [it for it in before if it.number in instead]
+            own, gone = [row for row in before if row.number not in instead], [
+                row for row in before if row.number in instead
+            ]
             for each in cells:
                 last += 1
                 own.append(Waiting(last, self._hide_key(last, kind, each, gone), [], NEW, None, "", 0))
@@ -218,10 +220,10 @@ class Tray:
         """Puts rows in the place of those with their numbers; in the place of None nothing comes. Raises Fault."""
         with self.lock:
             last, all_rows = self._read()
-            own = [changed.get(it.number, it) for it in all_rows.get(f"{who(person)}\n{kind}", [])]
-            self._write(last, {**all_rows, f"{who(person)}\n{kind}": [it for it in own if it]})
-            for number, it in changed.items():
-                if it is None:
+            own = [changed.get(row.number, row) for row in all_rows.get(f"{who(person)}\n{kind}", [])]
+            self._write(last, {**all_rows, f"{who(person)}\n{kind}": [item for item in own if item]})
+            for number, waiting_item in changed.items():
+                if waiting_item is None:
                     self._keys.pop(number, None)
 
     # ---- keys
@@ -241,7 +243,7 @@ class Tray:
             return [*cells]
         key: Optional[str] = cells[KEY]
         if key == HIDDEN:
-            same = [it for it in gone if it.cells[0] == cells[0]] or gone
+            same = [waiting_item for waiting_item in gone if waiting_item.cells[0] == cells[0]] or gone
             key = self._keys.get(same[0].number) if len(same) == 1 else None
         if key is not None:
             self._keys[number] = key
@@ -252,7 +254,7 @@ class Tray:
     def _read(self) -> tuple[int, dict[str, list[Waiting]]]:
         try:
             found: Any = json.loads(self._path.read_text(encoding="utf-8"))
-            return found["last"], {of: [Waiting(*it) for it in rows] for of, rows in found["rows"].items()}
+            return found["last"], {of: [Waiting(*row) for row in rows] for of, rows in found["rows"].items()}
         except FileNotFoundError:
             return 0, {}
         except OSError as fault:
@@ -336,12 +338,12 @@ class Sender:
         return next((it.replies for it in settled if it.of == entry.number), None)
 
     def _settle(self, by: str) -> list[Entry]:
-        found = list[Entry]()
+        entries = list[Entry]()
         waiting = self._log.open_entries()
         if waiting:
             # (what waited at the office's port is dealt with by then)
             self._office.wait()
-        for it in waiting:
-            replies = self._look_up(it.records, it.at)
-            found.append(self._log.append(by, LOOKED_UP, of=it.number, replies=replies))
-        return found
+        for entry in waiting:
+            replies = self._look_up(entry.records, entry.at)
+            entries.append(self._log.append(by, LOOKED_UP, of=entry.number, replies=replies))
+        return entries

@@ -208,18 +208,18 @@ def make_app(desk: Desk, reached: Reached) -> flask.Flask:
     templates.globals.update(answer_in_words=answer_in_words, gone_in_words=gone_in_words)
 
     def page(template: str, status: int = 200, /, **named: object) -> Response:
-        found: Optional[Session] = flask.g.get("session")
+        session: Optional[Session] = flask.g.get("session")
         given: dict[str, object] = {
             "here": "",
-            "session": found,
+            "session": session,
             "style_at": flask.url_for("style"),
             "script_root": flask.request.script_root,
             "desk": desk,
             "waiting": desk.log.open_entries(),
-            "long_forms": long_forms(desk.durations) if found else [],
+            "long_forms": long_forms(desk.durations) if session else [],
         }
         text = templates.get_template(template).render({**given, **named})
-        return flask.Response(with_names(text, found) if found else text, status)
+        return flask.Response(with_names(text, session) if session else text, status)
 
     app.extensions["desk"], app.extensions["page"], app.extensions["reached"] = desk, page, reached
     app.before_request(_let_in)

@@ -109,10 +109,10 @@ class Watch:
                 known = self._glances[wanted] = glance_at(office, wanted, copy.at, self._observed.heard)
             return known
 
-    def expect(self, found: Glance) -> Optional[Expected]:
+    def expect(self, glance: Glance) -> Optional[Expected]:
         """The response of earlier months at the same time after their windows opened."""
-        window = found.state.window
-        return self._observed.expect(window.month, min(found.at, window.closes) - window.opens)
+        window = glance.state.window
+        return self._observed.expect(window.month, min(glance.at, window.closes) - window.opens)
 
     def list_seen(self) -> Sequence[Seen]:
         """The response of months as the application saw it while it ran."""
@@ -127,8 +127,8 @@ class Watch:
                 month = month_at(office, copy.at)
                 self._glances = {}
                 if month is not None:
-                    self._glances[month] = found = glance_at(office, month, copy.at, self._observed.heard)
-                    self._note(found)
+                    self._glances[month] = glance = glance_at(office, month, copy.at, self._observed.heard)
+                    self._note(glance)
             self.seconds = time.monotonic() - begun
         self.on_renewed()
 
@@ -140,12 +140,12 @@ class Watch:
             self.fault = says(fault)
             raise
 
-    def _note(self, found: Glance) -> None:
+    def _note(self, glance: Glance) -> None:
         """Notes how far a month is whose window is open for the first time."""
-        window, share = found.state.window, found.share
-        if window.opens <= found.at < window.closes and not found.state.revision:
+        window, share = glance.state.window, glance.share
+        if window.opens <= glance.at < window.closes and not glance.state.revision:
             weighed = -1 if share.weighed is None else share.weighed
-            self._observed.note(Seen(window.month, found.at - window.opens, share.slots, share.priced, weighed))
+            self._observed.note(Seen(window.month, glance.at - window.opens, share.slots, share.priced, weighed))
 
     def _follow(self) -> None:
         while not self._is_over:

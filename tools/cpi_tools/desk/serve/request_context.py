@@ -67,21 +67,21 @@ AFTER = "after"
 
 def desk() -> Desk:
     """The desk of the application."""
-    found: Desk = flask.current_app.extensions["desk"]
-    return found
+    desk: Desk = flask.current_app.extensions["desk"]
+    return desk
 
 
 def session() -> Session:
     """The session of the request, which was admitted."""
-    found: Session = flask.g.session
-    return found
+    session: Session = flask.g.session
+    return session
 
 
 def page(template: str, status: int = 200, /, **named: object) -> Response:
     """A page of a template."""
     made: Any = flask.current_app.extensions["page"]
-    found: Response = made(template, status, **named)
-    return found
+    response: Response = made(template, status, **named)
+    return response
 
 
 def after(view: str, came: Mapping[str, object], /, **of_address: Any) -> Response:

@@ -115,7 +115,9 @@ class Once:
 
     def _forget(self) -> None:
         now = self._clock()
-        old = [name for name, it in self._forms.items() if it.is_over.is_set() and now - it.ended >= self._known_for]
+        old = [
+            name for name, form in self._forms.items() if form.is_over.is_set() and now - form.ended >= self._known_for
+        ]
         for name in old:
             del self._forms[name]
 

@@ -80,10 +80,10 @@ NETWORK_BITS = 64
 def place_of(address: str) -> str:
     """The part of an address by which wrong keys are counted."""
     try:
-        found = ipaddress.ip_address(address)
+        place = ipaddress.ip_address(address)
     except ValueError:
         return address
-    return str(ipaddress.ip_network((found, NETWORK_BITS), strict=False)) if found.version == 6 else str(found)
+    return str(ipaddress.ip_network((place, NETWORK_BITS), strict=False)) if place.version == 6 else str(place)
 
 
 class Tries:

@@ -123,8 +123,8 @@ class OnceARequest:
             return self._find()
         if "money" not in flask.g:
             flask.g.money = self._find()
-        found: Optional[Money] = flask.g.money
-        return found
+        money: Optional[Money] = flask.g.money
+        return money
 
 
 def prices_are(money: Optional[Money]) -> Message:

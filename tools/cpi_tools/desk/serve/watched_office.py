@@ -57,7 +57,7 @@ def state_of(file: Path) -> tuple[object, ...]:
     parts = [file.stat()]
     with contextlib.suppress(FileNotFoundError):
         parts.append(log_beside(file).stat())
-    return (mark_of(file), *((it.st_size, it.st_mtime_ns) for it in parts))
+    return (mark_of(file), *((part.st_size, part.st_mtime_ns) for part in parts))
 
 
 def say_closed() -> Fault:
@@ -112,17 +112,17 @@ class Copies:
                 self._sweep()
 
     def _sweep(self) -> None:
-        for it in [it for it in self._old if not it.readers]:
-            self._old.remove(it)
-            it.remove()
+        for holding in [holding for holding in self._old if not holding.readers]:
+            self._old.remove(holding)
+            holding.remove()
 
     def close(self) -> None:
         """Removes all copies. It doesn't wait for a copy that is being taken; that copy is deleted once it is
         complete."""
         with self._lock:
             self._is_closed = True
-            for it in [*self._old, *([self._latest] if self._latest else [])]:
-                it.remove()
+            for holding in [*self._old, *([self._latest] if self._latest else [])]:
+                holding.remove()
             self._old, self._latest = [], None
 
 
@@ -209,7 +209,7 @@ class Observed:
         if own and row.after - own[-1].after < APART:
             return
         rows = [*self.rows, row]
-        self._write(self._rows_file, "".join(f"{','.join(map(str, it))}\n" for it in rows))
+        self._write(self._rows_file, "".join(f"{','.join(map(str, sighting))}\n" for sighting in rows))
         self.rows = rows
 
     def _write(self, to: Path, text: str) -> None:
@@ -221,10 +221,10 @@ class Observed:
     def expect(self, month: int, after: int) -> Optional[Expected]:
         """The response of the last months before this one at that time; None if none was seen."""
         found = dict[int, str]()
-        for it in self.rows:
+        for row in self.rows:
             # (the rows of a month are in the order of their moments)
-            if it.month < month and it.after <= after and it.slots:
-                found[it.month] = f"{100 * it.priced / it.slots:.1f}"
+            if row.month < month and row.after <= after and row.slots:
+                found[row.month] = f"{100 * row.priced / row.slots:.1f}"
         months = sorted(found.items(), reverse=True)[:COMPARED]
         return Expected(months) if months else None
 
@@ -384,7 +384,7 @@ def body_of(records: Sequence[Sequence[str]]) -> bytes:
 def messages_of(records: Sequence[Sequence[str]]) -> list[list[list[str]]]:
     """Some records in as few messages as have room for them, in their order. Raises Fault if one is longer than a
     message."""
-    found: list[list[list[str]]] = []
+    messages: list[list[list[str]]] = []
     room = 0
     for fields in records:
         size = len(body_of([fields]))
@@ -394,8 +394,8 @@ def messages_of(records: Sequence[Sequence[str]]) -> list[list[list[str]]]:
                 message("The record {record}.. has {bytes} bytes: a message can have at most {most}.", **places)
             )
         if size > room:
-            found.append([])
+            messages.append([])
             room = MOST_BYTES
-        found[-1].append([*fields])
+        messages[-1].append([*fields])
         room -= size
-    return found
+    return messages

@@ -83,20 +83,20 @@ def move_time(text: str, months: int) -> str:
 def rows_of(office: StoredOffice, year: int, clock: Clock) -> list[FormRow]:
     """The months of a year."""
     windows = {it.month: it for it in office.calendar()}
-    frozen = {it.month for it in office.releases()}
-    known = {month: times_of(it, clock) for month, it in windows.items()}
-    found = list[FormRow]()
+    frozen = {release.month for release in office.releases()}
+    known = {month: times_of(window, clock) for month, window in windows.items()}
+    rows = list[FormRow]()
     for month in (year * 100 + number for number in range(1, 13)):
         times = known.get(month) or suggest_times(month, known)
         if times:
             known[month] = times
-        found.append(FormRow(month_text(month), times or ("", "", ""), month in windows, month in frozen))
-    return found
+        rows.append(FormRow(month_text(month), times or ("", "", ""), month in windows, month in frozen))
+    return rows
 
 
-def times_of(it: Window, clock: Clock) -> tuple[str, str, str]:
+def times_of(window: Window, clock: Clock) -> tuple[str, str, str]:
     """The civil times of a window."""
-    return civil(it.opens, clock), civil(it.closes, clock), civil(it.publishes, clock)
+    return civil(window.opens, clock), civil(window.closes, clock), civil(window.publishes, clock)
 
 
 def suggest_times(month: int, known: dict[int, tuple[str, str, str]]) -> Optional[tuple[str, str, str]]:
@@ -111,19 +111,23 @@ def suggest_times(month: int, known: dict[int, tuple[str, str, str]]) -> Optiona
 
 def find_changes(given: Sequence[Given]) -> list[list[str]]:
     """The rows that a person changed: month and three times."""
-    return [[it.month, *it.times] for it in given if it.is_changed]
+    return [[given_value.month, *given_value.times] for given_value in given if given_value.is_changed]
 
 
 def quicker(rows: Sequence[FormRow], given: Sequence[Given]) -> list[str]:
     """The months that a person changed and whose window is another one now than the form showed."""
-    now = {it.month: it.was for it in rows}
-    return [it.month for it in given if it.is_changed and now.get(it.month) != it.was]
+    now = {row.month: row.was for row in rows}
+    return [
+        given_value.month
+        for given_value in given
+        if given_value.is_changed and now.get(given_value.month) != given_value.was
+    ]
 
 
 def as_filled_in(rows: Sequence[FormRow], given: Sequence[Given]) -> list[FormRow]:
     """The months as they are now, with the times that a person filled in."""
-    typed = {it.month: it.times for it in given if it.is_touched}
-    return [it._replace(typed=typed.get(it.month)) for it in rows]
+    typed = {given_value.month: given_value.times for given_value in given if given_value.is_touched}
+    return [row._replace(typed=typed.get(row.month)) for row in rows]
 
 
 # ==== the windows of the months by the office's clock, and the form that sets one
@@ -146,7 +150,7 @@ def show() -> Response:
     """The windows, the latest month first."""
     with desk().copies_now() as copy, read_copy(copy.path) as office:
         calendar, releases, moments = office.calendar(), office.releases(), office.frozen_moments()
-    latest = {it.month: it.revision for it in releases}
+    latest = {release.month: release.revision for release in releases}
     now, rows = time.time(), list[Row]()
     for it in reversed(calendar):
         revision = latest.get(it.month, 0)
@@ -158,7 +162,7 @@ def show() -> Response:
             state = _("open") if now < it.closes else _("closed, not frozen")
         rows.append(Row(month_text(it.month), *it[1:], state))
     year = time.gmtime(now).tm_year
-    years = sorted({*(int(it.month[:4]) for it in rows), year, year + 1})
+    years = sorted({*(int(row.month[:4]) for row in rows), year, year + 1})
     return page("calendar.html", rows=rows, years=years, zone=desk().given.clock.spoken_name, asked=still_asked())
 
 

@@ -62,9 +62,9 @@ class Changes:
 
     def add(self, by: str, name: str, pairs: Sequence[Pair]) -> None:
         """Adds one of now. Raises Fault."""
-        found = [*self.all(), Change(int(time.time()), by, name, [*pairs])]
+        changes = [*self.all(), Change(int(time.time()), by, name, [*pairs])]
         try:
-            write_whole(self._path, "".join(f"{json.dumps(it)}\n" for it in found).encode(), 0o600)
+            write_whole(self._path, "".join(f"{json.dumps(change)}\n" for change in changes).encode(), 0o600)
         except OSError as fault:
             raise Fault(because_of(fault)) from fault
 
@@ -202,7 +202,9 @@ class Draft:
         weights = {code: given.get(code, "" if is_whole else weight) for code, _, weight in before}
         after = [[code, weights[code], sources.get(code, "")] for code in weights if weights[code] or "-" in code]
         if self._note_changes(WEIGHTS, shown, after, by):
-            write_rows(self.folder / SOURCES_FILE, ("code", "source"), [[*it] for it in sources.items() if it[1]])
+            write_rows(
+                self.folder / SOURCES_FILE, ("code", "source"), [[*source] for source in sources.items() if source[1]]
+            )
             self._write_rows(CLASSIFICATION, [[code, title, weights[code]] for code, title, _ in before])
 
     def take_out(self, name: str, cells: Sequence[str], by: str = "") -> None:
@@ -228,7 +230,7 @@ class Draft:
         if name in (SETTINGS, REFERENCE):
             return sum_of(self.reference() if name == REFERENCE else self.settings())
         if name == ALL:
-            return sum_of([*(self.rows(it) for it in SHEETS), self.settings(), self.reference()])
+            return sum_of([*(self.rows(sheet) for sheet in SHEETS), self.settings(), self.reference()])
         if cells is None:
             return sum_of(self.rows(name))
         key = key_of(name)
@@ -296,11 +298,11 @@ class Draft:
     def numbers(self) -> dict[str, Optional[Fraction]]:
         """The weights by their codes; None for a text that isn't a number. Raises Fault."""
         unit, decimal = self.settings()
-        reads, found = Numbers(decimal), dict[str, Optional[Fraction]]()
+        reads, fractions = Numbers(decimal), dict[str, Optional[Fraction]]()
         for code, weight, _source in self.rows(WEIGHTS):
             plain = weight[:-1] if unit == "percent" and weight.endswith("%") else weight
-            found[code] = reads.of(plain) if weight else Fraction(0)
-        return found
+            fractions[code] = reads.of(plain) if weight else Fraction(0)
+        return fractions
 
     def sum(self) -> Sum:
         """The sum of the weights. Raises Fault."""

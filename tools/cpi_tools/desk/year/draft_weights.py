@@ -68,12 +68,20 @@ def _was(text: str) -> Cells:
 def quicker(given: Iterable[Given], now: Mapping[str, Cells]) -> list[Given]:
     """The rows that a person changed, and that now are neither as the form showed them nor as the person wrote them.
     `now` are the weights and sources by their codes."""
-    return [it for it in given if it.is_changed and now.get(it.code) not in (it.was, it.now)]
+    return [
+        given_value
+        for given_value in given
+        if given_value.is_changed and now.get(given_value.code) not in (given_value.was, given_value.now)
+    ]
 
 
 def absent(given: Iterable[Given], now: Mapping[str, Cells]) -> Optional[Message]:
     """The message with a person's texts for rows that no longer exist; None if all exist."""
-    rows = [f"{it.code}: {', '.join(it.now)}" for it in given if it.is_changed and it.code not in now]
+    rows = [
+        f"{given_value.code}: {', '.join(given_value.now)}"
+        for given_value in given
+        if given_value.is_changed and given_value.code not in now
+    ]
     if not rows:
         return None
     return _("The draft no longer contains these rows; you wrote {rows}.", rows=of_others("; ".join(rows)))
@@ -81,8 +89,8 @@ def absent(given: Iterable[Given], now: Mapping[str, Cells]) -> Optional[Message
 
 def differs(pairs: Sequence[Pair]) -> Optional[Message]:
     """The message about other people's changes of rows, for the first of them; None if no rows are known."""
-    found = [_of_pair(it) for it in [*pairs][-MOST_NAMED:]]
-    return sentences(*found) if found else None
+    messages = [_of_pair(pair) for pair in [*pairs][-MOST_NAMED:]]
+    return sentences(*messages) if messages else None
 
 
 def _of_pair(pair: Pair) -> Message:
@@ -98,7 +106,7 @@ def _of_pair(pair: Pair) -> Message:
 
 def _cells(cells: Optional[Cells]) -> Worded:
     """The cells of a row after its name."""
-    return of_others(", ".join(it for it in (cells or [])[1:] if it) or "\u2013")
+    return of_others(", ".join(cell for cell in (cells or [])[1:] if cell) or "\u2013")
 
 
 # ==== the weights of a draft, compared with the previous year's: the share of each in the total, its difference, and
@@ -190,13 +198,13 @@ def in_unit(share: Optional[Fraction], unit: str) -> str:
 
 def before(office: StoredOffice, year: int) -> Before:
     """The weights of a year from its tables, or from its plan if there are none."""
-    of_year = [it for it in office.releases() if it.month // 100 == year]
+    of_year = [release for release in office.releases() if release.month // 100 == year]
     levels = office.levels(of_year[-1]) if of_year else {}
-    weights = {code: Fraction(it.weight) for code, it in levels.items() if "-" in code}
+    weights = {code: Fraction(level.weight) for code, level in levels.items() if "-" in code}
     titles = office.planned_titles(year)
     if not weights:
-        plan = next((it for it in office.plans() if it.year == year), None)
-        weights = {code: Fraction(it) for code, it in plan.aggregates().items()} if plan else {}
+        plan = next((plan for plan in office.plans() if plan.year == year), None)
+        weights = {code: Fraction(aggregate) for code, aggregate in plan.aggregates().items()} if plan else {}
     return Before(year, shares_of(weights), titles)
 
 
@@ -206,7 +214,7 @@ def before(office: StoredOffice, year: int) -> Before:
 def months_to_move(office: StoredOffice, year: int) -> list[int]:
     """The months at whose prices the weights of a year can be, the latest first: those with a table that has rows, but for
     the one to which they are moved."""
-    months = sorted({it.month for it in office.releases() if it.month < year * 100})
+    months = sorted({release.month for release in office.releases() if release.month < year * 100})
     return months[1:-1][::-1]
 
 
@@ -217,10 +225,12 @@ def move_weights(
     nothing can be updated from that month."""
     if month not in months_to_move(office, year):
         return None
-    latest = {it.month: it for it in office.releases() if it.month < year * 100}
+    latest = {release.month: release for release in office.releases() if release.month < year * 100}
     now = max(latest)
-    levels = [{code: it.chained for code, it in office.levels(latest[it]).items()} for it in (month, now)]
-    prices = {code: Fraction(levels[1][code], levels[0][code]) for code in numbers if all(code in it for it in levels)}
+    levels = [{code: level.chained for code, level in office.levels(latest[it]).items()} for it in (month, now)]
+    prices = {
+        code: Fraction(levels[1][code], levels[0][code]) for code in numbers if all(code in level for level in levels)
+    }
     lacking = [code for code, number in numbers.items() if number and code not in prices]
     worth = {code: (number or 0) * prices[code] for code, number in numbers.items() if code in prices}
     return Moved(month, now, prices, {} if lacking else shares_of(worth), lacking)
@@ -232,7 +242,7 @@ def move_weights(
 def table(draft: Draft, was: Before, of: Optional[Moved]) -> list[Row]:
     """The weights of a draft, and the previous year's weights that it doesn't contain. Raises Fault."""
     shares, last = shares_of(draft.numbers()), last_changes(draft)
-    found = [
+    rows = [
         Row(
             code,
             title,
@@ -246,18 +256,18 @@ def table(draft: Draft, was: Before, of: Optional[Moved]) -> list[Row]:
         )
         for code, title, weight, source in draft.titled_weights()
     ]
-    there = {it.code for it in found}
+    there = {row.code for row in rows}
     gone = [code for code in was.shares if code not in there]
-    return found + [Row(code, was.titles.get(code, ""), was.shares[code], None, is_gone=True) for code in gone]
+    return rows + [Row(code, was.titles.get(code, ""), was.shares[code], None, is_gone=True) for code in gone]
 
 
 def last_changes(draft: Draft) -> dict[str, Change]:
     """The last change of each weight, by its code. Raises Fault."""
-    found = dict[str, Change]()
+    changes = dict[str, Change]()
     for change in draft.changes.all():
         if change.name in ONE_FILE:
-            found.update((cells[0], change) for pair in change.pairs or () for cells in pair if cells)
-    return found
+            changes.update((cells[0], change) for pair in change.pairs or () for cells in pair if cells)
+    return changes
 
 
 def divisions(rows: Iterable[Row], titles: Mapping[str, str]) -> list[Row]:
@@ -271,15 +281,15 @@ def divisions(rows: Iterable[Row], titles: Mapping[str, str]) -> list[Row]:
 
 def sum_rows(code: str, title: str, rows: Sequence[Row]) -> Row:
     """The sum of some rows."""
-    before_all = add_shares(it.before for it in rows)
-    share, moved_share = add_shares(it.share for it in rows), add_shares(it.moved for it in rows)
+    before_all = add_shares(row.before for row in rows)
+    share, moved_share = add_shares(row.share for row in rows), add_shares(row.moved for row in rows)
     return Row(code, title, before_all, share if share is not None else Fraction(0), None, moved_share)
 
 
 def add_shares(shares: Iterable[Optional[Fraction]]) -> Optional[Fraction]:
     """The sum of the existing shares; None if there are none."""
-    found = [it for it in shares if it is not None]
-    return sum(found, Fraction(0)) if found else None
+    fractions = [share for share in shares if share is not None]
+    return sum(fractions, Fraction(0)) if fractions else None
 
 
 # ==== the weights on the page of a draft: the table with the year before, by division too, and moved by prices
@@ -319,19 +329,19 @@ def of_weights(draft: Draft, query: str, start: int, typed: Sequence[Given]) -> 
     asked = month_asked(draft)
     office = now(draft, asked)
     rows = table(draft, office.before, office.moved)
-    found = search_weights(rows, query)
-    first = min(start, max(0, (len(found) - 1) // ROWS * ROWS))
+    weights = search_weights(rows, query)
+    first = min(start, max(0, (len(weights) - 1) // ROWS * ROWS))
     titles = {code: title for code, title, _ in draft.rows(CLASSIFICATION)}
-    typed_rows = {it.code: it for it in typed if it.is_changed}
+    typed_rows = {given_value.code: given_value for given_value in typed if given_value.is_changed}
     return {
-        "weights": with_typed(rows, found[first : first + ROWS], typed_rows),
+        "weights": with_typed(rows, weights[first : first + ROWS], typed_rows),
         "divisions": divisions(rows, {**office.before.titles, **titles}),
         "year_before": office.before.year,
         "typed_rows": typed_rows,
         "moved": office.moved,
-        "months": [month_text(it) for it in office.months],
+        "months": [month_text(month) for month in office.months],
         "asked": month_text(asked) if asked else "",
-        "total": len(found),
+        "total": len(weights),
         "first": first,
         "step": ROWS,
         "shown_reference": draft.sum_page(REFERENCE),
@@ -352,15 +362,15 @@ def month_said(text: str) -> str:
 def search_weights(rows: Sequence[Row], query: str) -> list[Row]:
     """The rows that have each word of a query in their code, title, weight or source."""
     words = query.casefold().split()
-    texts = (" ".join((it.code, it.title, it.weight, it.source)).casefold() for it in rows)
-    return [it for it, text in zip(rows, texts) if all(word in text for word in words)]
+    texts = (" ".join((row.code, row.title, row.weight, row.source)).casefold() for row in rows)
+    return [row for row, text in zip(rows, texts) if all(word in text for word in words)]
 
 
 def with_typed(rows: Sequence[Row], shown: Sequence[Row], typed: Collection[str]) -> list[Row]:
     """The rows of a page, and those that a person typed in, but that others have removed from the draft in the
     meantime."""
-    codes = {it.code for it in shown}
-    return [it for it in rows if it.code in codes or (it.code in typed and not it.is_gone)]
+    codes = {row.code for row in shown}
+    return [row for row in rows if row.code in codes or (row.code in typed and not row.is_gone)]
 
 
 def price_text(row: Row) -> str:
@@ -376,6 +386,6 @@ def columns_of_file(draft: Draft) -> tuple[Sequence[str], list[list[str]]]:
     office, unit, year = now(draft, 0).before, draft.settings().unit, draft.year - 1
     is_money = not in_unit(Fraction(1), unit)
     heads = ("code", "title", f"percent_{year}" if is_money else f"weight_{year}", "weight", "source")
-    rows = [it for it in table(draft, office, None) if not it.is_gone]
-    cells = [[it.code, it.title, in_unit(it.before, unit) or percent_text(it.before)] for it in rows]
-    return heads, [[*first, it.weight, it.source] for first, it in zip(cells, rows)]
+    rows = [row for row in table(draft, office, None) if not row.is_gone]
+    cells = [[row.code, row.title, in_unit(row.before, unit) or percent_text(row.before)] for row in rows]
+    return heads, [[*first, row.weight, row.source] for first, row in zip(cells, rows)]

@@ -87,8 +87,8 @@ class Drafts:
 
     def years(self) -> list[int]:
         """The years that have a draft, the latest first."""
-        found = [int(path.name) for path in self._folder.glob("[0-9]*") if path.name.isdecimal()]
-        return sorted(found, reverse=True)
+        ints = [int(path.name) for path in self._folder.glob("[0-9]*") if path.name.isdecimal()]
+        return sorted(ints, reverse=True)
 
     def draft(self, year: int) -> Optional[Draft]:
         """The draft of a year, if there is one."""
@@ -191,8 +191,8 @@ def changed_meanwhile(by: str) -> Message:
 
 def records_of(bundles: Iterable[Bundle]) -> Iterator[list[str]]:
     """The records of the taken rows: each row of an import is one, and so is a plan."""
-    for it in bundles:
-        if it.year:
-            yield ["plan", it.year, body_of(it.rows)]
+    for bundle in bundles:
+        if bundle.year:
+            yield ["plan", bundle.year, body_of(bundle.rows)]
         else:
-            yield from (row.fields for row in it.rows)
+            yield from (row.fields for row in bundle.rows)

@@ -122,9 +122,9 @@ class NoDraft(Fault):
 def draft_of(year: int) -> Draft:
     """The draft of an address; without a draft the page doesn't exist. Raises NoDraft for a form of one that was
     dropped."""
-    found = desk().drafts.draft(year) if 2000 <= year <= 2199 else None
-    if found is not None:
-        return found
+    draft = desk().drafts.draft(year) if 2000 <= year <= 2199 else None
+    if draft is not None:
+        return draft
     if flask.request.method == "POST":
         raise NoDraft(changed_by_step(DROPPED_DRAFT.format(year=year)))
     flask.abort(404)
@@ -205,7 +205,9 @@ class Noted(NamedTuple):
 def newest(changes: Sequence[Change]) -> list[Noted]:
     """The last changes, the latest first."""
     found = [*changes][-NEWEST:][::-1]
-    return [Noted(it, rows_of_change(it)[:FEW_ROWS], max(0, len(it.pairs or ()) - FEW_ROWS)) for it in found]
+    return [
+        Noted(change, rows_of_change(change)[:FEW_ROWS], max(0, len(change.pairs or ()) - FEW_ROWS)) for change in found
+    ]
 
 
 def rows_of_change(change: Change) -> list[tuple[str, str]]:
@@ -222,7 +224,7 @@ def of_sheet(draft: Draft, name: str) -> dict[str, Any]:
         "sheet": name,
         "kind": SHEETS.get(name),
         "columns": SHEETS[name].columns if name in SHEETS else LISTS[name],
-        "counts": {it: len(draft.rows(it)) for it in (*SHEETS, *LISTS)},
+        "counts": {sheet: len(draft.rows(sheet)) for sheet in (*SHEETS, *LISTS)},
         "rows": rows[start : start + SHOWN],
         "total": len(rows),
         "first": start,
@@ -262,7 +264,7 @@ def lines_said(records: Sequence[list[str]]) -> list[tuple[Optional[Message], Wo
     except Fault:
         # (the office is away: what it calls things isn't known then)
         names = names_in(records)
-    return [(sentence_of(it, names), line(it)) for it in listed]
+    return [(sentence_of(record, names), line(record)) for record in listed]
 
 
 def too_long(checked: Checked) -> Worded:
@@ -340,10 +342,14 @@ def put(year: int) -> Response:
 def put_rows(draft: Draft, name: str, form: Mapping[str, str]) -> Response:
     """Puts a row, or those that were pasted, if nobody changed them since the page was shown."""
     kind, is_pasted, is_whole, version = SHEETS[name], "pasted" in form, bool(form.get("whole")), field("shown")
-    row = [] if is_pasted else [field(it).strip() for it in kind.columns]
+    row = [] if is_pasted else [field(column).strip() for column in kind.columns]
     try:
         rows, unread = read_pasted(form["pasted"], kind) if is_pasted else ([row], [])
-        if lacks := [it for it, cell in zip(kind.columns, rows[0]) if not cell and it not in (kind.optional, "weight")]:
+        if lacks := [
+            column
+            for column, cell in zip(kind.columns, rows[0])
+            if not cell and column not in (kind.optional, "weight")
+        ]:
             raise Fault(_("The row has no cell {column}.", column=of_others(lacks[0])))
         if name == WEIGHTS:
             rows = with_sources(draft, rows, form.get("source", "").strip())
@@ -386,7 +392,7 @@ def put_weights(draft: Draft) -> Response:
             changed = [[it.code] for it in others]
             by, at, pairs = draft.touched_since(version, WEIGHTS, changed) or (*draft.changed_last(WEIGHTS), [])
             parts = [told_others(by, at, pairs), absent(given, now)]
-            return show_refusal(draft, 409, sentences(*(it for it in parts if it)), given)
+            return show_refusal(draft, 409, sentences(*(part for part in parts if part)), given)
         draft.put(WEIGHTS, rows, by=session().person)
     except Fault as fault:
         return show_refusal(draft, 400, says(fault), given)
@@ -468,9 +474,9 @@ def send(year: int) -> Response:
         replies = desk().send(session(), checked.records)
     except Fault as fault:
         return show_result(draft, 503, _("Nothing was sent: {fault}", fault=says(fault)))
-    rows = pair_replies([hidden(it) for it in checked.records], replies)
+    rows = pair_replies([hidden(record) for record in checked.records], replies)
     names, pairs = names_in(checked.records), zip(rows, checked.records)
-    left = [Left(line(of), it.answer, sentence_of(of, names)) for it, of in pairs if not it.is_done]
+    left = [Left(line(of), pair.answer, sentence_of(of, names)) for pair, of in pairs if not pair.is_done]
     desk().drafts.sent[year] = left
     done = len(rows) - len(left)
     if left:

@@ -330,8 +330,8 @@ def place_desk(made: Path, target: Path, owner: os.stat_result) -> Placed:
 def _folder(folder: HeldFolder, name: str, owner: os.stat_result) -> Iterator[HeldFolder]:
     """A folder in another one, which is made and given to an owner if it isn't there."""
     if folder.has(name):
-        with folder.folder(name) as found:
-            yield found
+        with folder.folder(name) as path:
+            yield path
         return
     with folder.new_folder(name) as made:
         _give(made.number, owner)

@@ -75,16 +75,16 @@ class Seen(NamedTuple):
 
 def seen_in(folder: Path) -> dict[str, Seen]:
     """The files of a folder by their names; none if it isn't there. Raises Fault."""
-    found = dict[str, Seen]()
+    sightings = dict[str, Seen]()
     try:
         for path in _files_below(folder):
             known = path.lstat()
-            found[str(path.relative_to(folder))] = Seen(known.st_ino, known.st_size, known.st_mtime_ns)
+            sightings[str(path.relative_to(folder))] = Seen(known.st_ino, known.st_size, known.st_mtime_ns)
     except OSError as fault:
         raise Fault(because_of(fault)) from fault
-    if len(found) > MOST_FILES:
-        raise Fault(f"{folder} has {len(found):,} files, and {MOST_FILES:,} are copied at most")
-    return found
+    if len(sightings) > MOST_FILES:
+        raise Fault(f"{folder} has {len(sightings):,} files, and {MOST_FILES:,} are copied at most")
+    return sightings
 
 
 def _files_below(folder: Path) -> Iterator[Path]:

@@ -182,8 +182,8 @@ def _fault_of(path: Path) -> str:
 
 def place_in(room: Path, name: str) -> Optional[Path]:
     """The path for a file of an archive that belongs to a desk's folder; None if it doesn't."""
-    found = re.fullmatch(rf"{DESK}/(?:{re.escape(INDEX)}|[1-9][0-9]{{0,9}}/(.+))", name)
-    return room / name if found and (found[1] is None or is_name(found[1])) else None
+    match = re.fullmatch(rf"{DESK}/(?:{re.escape(INDEX)}|[1-9][0-9]{{0,9}}/(.+))", name)
+    return room / name if match and (match[1] is None or is_name(match[1])) else None
 
 
 # ==== generations of a second copy: the office's state in each hour of a day, each day of a month and each month of a

@@ -271,12 +271,12 @@ def fault_of(office: Path, note: CopyNote) -> str:
     """Why the file of a copy and its log don't match a note; empty if they do. Raises OSError."""
     for path, wanted in ((office, note.file), (log_beside(office), note.log)):
         try:
-            found = Sum(*sum_of(path))
+            fault = Sum(*sum_of(path))
         except FileNotFoundError:
-            found = Sum(*EMPTY)
-        if found.size != wanted.size:
-            return f"{path.name} has {found.size:,} bytes, and {wanted.size:,} by its note"
-        if found.sum != wanted.sum:
+            fault = Sum(*EMPTY)
+        if fault.size != wanted.size:
+            return f"{path.name} has {fault.size:,} bytes, and {wanted.size:,} by its note"
+        if fault.sum != wanted.sum:
             return f"{path.name} hasn't the sum of its note"
     return ""
 

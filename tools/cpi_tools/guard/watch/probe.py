@@ -259,11 +259,11 @@ def add_words(tools: argparse._SubParsersAction[ToolWords]) -> None:
 def run(chosen: argparse.Namespace, clock: Callable[[], float] = time.time) -> int:
     """Runs the tool by its words; its exit status."""
     seen = look(chosen, int(clock()))
-    found = judge_office(seen, chosen)
+    office = judge_office(seen, chosen)
     if not chosen.prometheus:
-        print(nagios_line(seen, found))
-        return found.state
+        print(nagios_line(seen, office))
+        return office.state
     for fault in seen.unseen:
         print(f"cpi-tools probe: {fault}", file=sys.stderr)
-    sys.stdout.write(prometheus_text(seen, found))
+    sys.stdout.write(prometheus_text(seen, office))
     return OK

@@ -54,18 +54,18 @@ class Certificate(NamedTuple):
 
 def place(text: str) -> Place:
     """A type of argparse: `localhost:443`, or the name of a file."""
-    found = re.fullmatch(r"\[([0-9A-Fa-f:.]+)\]:([0-9]{1,5})|([^/:]+):([0-9]{1,5})", text)
-    if not found:
+    match = re.fullmatch(r"\[([0-9A-Fa-f:.]+)\]:([0-9]{1,5})|([^/:]+):([0-9]{1,5})", text)
+    if not match:
         return Path(text)
-    return Server(found[1] or found[3], int(found[2] or found[4]))
+    return Server(match[1] or match[3], int(match[2] or match[4]))
 
 
 def certificate_at(where: Place, seconds: int) -> Certificate:
     """The certificate at a place; of several in a file, the one that ends first. Raises Fault if there is none."""
     name = str(where) if isinstance(where, Path) else f"{where.host}:{where.port}"
     try:
-        found = _in_file(where) if isinstance(where, Path) else [_shown_by(where, seconds)]
-        return Certificate(name, min(end_of(each) for each in found))
+        files = _in_file(where) if isinstance(where, Path) else [_shown_by(where, seconds)]
+        return Certificate(name, min(end_of(each) for each in files))
     except OSError as fault:
         because = because_of(fault) if isinstance(where, Path) else f"{name} shows no certificate: {fault}"
         raise Fault(because) from fault
@@ -108,7 +108,7 @@ Part = tuple[int, bytes]
 
 def _parts(data: bytes) -> list[Part]:
     """The values that follow one another in some bytes."""
-    found, at = list[Part](), 0
+    parts, at = list[Part](), 0
     while at < len(data):
         tag, length, at = data[at], data[at + 1], at + 2
         if length & 0x80:
@@ -116,9 +116,9 @@ def _parts(data: bytes) -> list[Part]:
             length, at = int.from_bytes(data[at : at + count], "big"), at + count
         if at + length > len(data):
             raise ValueError("a value is cut off")
-        found.append((tag, data[at : at + length]))
+        parts.append((tag, data[at : at + length]))
         at += length
-    return found
+    return parts
 
 
 def _one(data: bytes, tag: int) -> bytes:
@@ -231,31 +231,31 @@ def state_of_rest(value: int, levels: Levels) -> int:
 
 def levels(text: str) -> Levels:
     """A type of argparse for a figure that gets worse as it rises: two whole numbers, `26,50`."""
-    found = _two_numbers(text)
-    if found.warning > found.critical:
+    numbers = _two_numbers(text)
+    if numbers.warning > numbers.critical:
         raise argparse.ArgumentTypeError(
-            f"{text}: from {found.critical} on it is critical, so it never warns from {found.warning} on; a warning"
+            f"{text}: from {numbers.critical} on it is critical, so it never warns from {numbers.warning} on; a warning"
             " isn't above the critical value"
         )
-    return found
+    return numbers
 
 
 def levels_of_rest(text: str) -> Levels:
     """A type of argparse for a figure that gets worse as it falls: two whole numbers, `21,7`."""
-    found = _two_numbers(text)
-    if found.warning < found.critical:
+    numbers = _two_numbers(text)
+    if numbers.warning < numbers.critical:
         raise argparse.ArgumentTypeError(
-            f"{text}: from {found.critical} on downwards it is critical, so it never warns from {found.warning} on; a"
+            f"{text}: from {numbers.critical} on downwards it is critical, so it never warns from {numbers.warning} on; a"
             " warning isn't below the critical value"
         )
-    return found
+    return numbers
 
 
 def _two_numbers(text: str) -> Levels:
-    found = re.fullmatch(r"([0-9]{1,10}),([0-9]{1,10})", text)
-    if not found:
+    match = re.fullmatch(r"([0-9]{1,10}),([0-9]{1,10})", text)
+    if not match:
         raise argparse.ArgumentTypeError(f"{text} isn't two whole numbers like 26,50")
-    return Levels(int(found[1]), int(found[2]))
+    return Levels(int(match[1]), int(match[2]))
 
 
 # ==== the checks of a probe: an office's answer, its files, its backups, and its late months
@@ -373,16 +373,16 @@ def last_backup(folder: Path) -> Optional[Backup]:
     A note whose backup isn't there, or has another size, counts for nothing. Raises Fault if the folder can't be read,
     or contains a file that should be a note and isn't.
     """
-    found = list[Backup]()
+    backups = list[Backup]()
     try:
         for beside in folder.iterdir():
             path = beside.with_suffix("")
             note = read_note(path) if beside.suffix == ".sha256" else None
             if note and path.is_file() and path.stat().st_size == note.size:
-                found.append(Backup(path, note.copied, note.size))
+                backups.append(Backup(path, note.copied, note.size))
     except OSError as fault:
         raise Fault(because_of(fault)) from fault
-    return max(found, key=lambda each: each.copied) if found else None
+    return max(backups, key=lambda each: each.copied) if backups else None
 
 
 def backups_of(folder: Path) -> Backups:

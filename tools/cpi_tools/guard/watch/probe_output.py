@@ -82,9 +82,9 @@ def judge_office(seen: Seen, chosen: argparse.Namespace) -> Judged:
         _of_machine,
         _of_unseen,
     )
-    found = [each for part in parts for each in part(seen, chosen) if each[0] != OK]
-    ordered = [text for weight in (CRITICAL, WARNING, UNKNOWN) for state, text in found if state == weight]
-    return Judged(worst(state for state, _ in found), tuple(ordered))
+    office = [each for part in parts for each in part(seen, chosen) if each[0] != OK]
+    ordered = [text for weight in (CRITICAL, WARNING, UNKNOWN) for state, text in office if state == weight]
+    return Judged(worst(state for state, _ in office), tuple(ordered))
 
 
 def _of_answer(seen: Seen, chosen: argparse.Namespace) -> Iterator[Judgement]:

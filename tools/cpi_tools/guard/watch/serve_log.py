@@ -54,8 +54,8 @@ class Journal:
 
     def last(self, pattern: str) -> Optional[Line]:
         """The last line of the unit that matches."""
-        if found := self._entry("--grep", pattern):
-            return found
+        if entry := self._entry("--grep", pattern):
+            return entry
         if not self._entry() and not self._is_loaded():
             raise Fault(f"the journal has no line of {self.unit}, and systemd doesn't know this unit")
         return None
@@ -95,11 +95,11 @@ class OutputFile:
         except OSError as fault:
             raise Fault(because_of(fault)) from fault
         lines = text.splitlines()
-        found = [at for at, line in enumerate(lines) if re.search(pattern, line)]
-        if not found:
+        matching_lines = [at for at, line in enumerate(lines) if re.search(pattern, line)]
+        if not matching_lines:
             return None
-        is_last = found[-1] + 1 == len(lines)
-        return Line(written if is_last else written - EARLIER, lines[found[-1]])
+        is_last = matching_lines[-1] + 1 == len(lines)
+        return Line(written if is_last else written - EARLIER, lines[matching_lines[-1]])
 
 
 LEFT = r"cpi: ([0-9]+) connections of --limit are left"
@@ -112,8 +112,8 @@ def connections_left(said: Said) -> Optional[int]:
     """So many connections were left at the program's last message; None if it printed none since it started. Raises
     Fault if its lines can't be read."""
     last = said.last(TURNS)
-    found = re.fullmatch(LEFT, last.text) if last else None
-    return int(found[1]) if found else None
+    match = re.fullmatch(LEFT, last.text) if last else None
+    return int(match[1]) if match else None
 
 
 # ==== whether the last write of an office succeeded, from the messages of `cpi serve` and from its files

@@ -77,9 +77,9 @@ class Changes:
         below = WHOLE * sum(map(mul, self._weights[inner], self._keys[inner]))
         below += ends[0] * self._keys[first] + ends[1] * self._keys[last]
         under = (most - least) << self._bits
-        found = rounded_change(under, below)
-        if found == rounded_change(under, below + most - least):
-            return found
+        change = rounded_change(under, below)
+        if change == rounded_change(under, below + most - least):
+            return change
         weights = [ends[0], *(WHOLE * weight for weight in self._weights[inner]), ends[1]]
         return self._exact(weights, first, last)
 
@@ -131,12 +131,12 @@ class CoreComputed:
     def rows(self, measures: Mapping[str, Sequence[CoreDefinition]], month: str) -> dict[str, CoreRow]:
         """The figures of a month by id, of those measures that have one; `measures` has the rows of each."""
         monthly, annual = (self._changes(month, is_annual) for is_annual in (False, True))
-        found: dict[str, CoreRow] = {}
+        core_rows: dict[str, CoreRow] = {}
         for name, rows in measures.items():
             of = definition_in(rows, month)
             if of.measure and monthly:
-                found[name] = CoreRow(monthly.figure(of), annual.figure(of) if annual else None)
-        return found
+                core_rows[name] = CoreRow(monthly.figure(of), annual.figure(of) if annual else None)
+        return core_rows
 
     def _changes(self, month: str, is_annual: bool) -> Optional[Changes]:
         """The monthly or annual changes of a month; None if no aggregate has one."""
@@ -161,10 +161,10 @@ class CoreComputed:
 
 def measures_of(definitions: Iterable[CoreDefinition]) -> dict[str, list[CoreDefinition]]:
     """The rows of each measure by its id, in the order of the file."""
-    found: dict[str, list[CoreDefinition]] = {}
-    for it in definitions:
-        found.setdefault(it.id, []).append(it)
-    return found
+    measures: dict[str, list[CoreDefinition]] = {}
+    for definition in definitions:
+        measures.setdefault(definition.id, []).append(definition)
+    return measures
 
 
 def core_of(definitions: Sequence[CoreDefinition], tables: Mapping[str, Table]) -> dict[str, CoreMeasure]:
@@ -173,15 +173,15 @@ def core_of(definitions: Sequence[CoreDefinition], tables: Mapping[str, Table]) 
         return {}
     measures, computed = measures_of(definitions), CoreComputed(tables)
     rows = {month: computed.rows(measures, month) for month in sorted(tables) if tables[month].rows}
-    found: dict[str, CoreMeasure] = {}
+    core_measures: dict[str, CoreMeasure] = {}
     for name, own in measures.items():
-        figures = {month: it[name] for month, it in rows.items() if name in it}
-        later = [it.since for it in own[1:] if it.measure]
+        figures = {month: row[name] for month, row in rows.items() if name in row}
+        later = [core_definition.since for core_definition in own[1:] if core_definition.measure]
         changes = [since for since in later if min(figures, default=since) < since and since in figures]
-        last = [it for it in own if it.measure][-1]
+        last = [core_definition for core_definition in own if core_definition.measure][-1]
         measures_in = {month: definition_in(own, month).measure for month in figures}
-        found[name] = CoreMeasure(own[-1].title, last.is_share, figures, measures_in, changes)
-    return {name: it for name, it in found.items() if it.rows}
+        core_measures[name] = CoreMeasure(own[-1].title, last.is_share, figures, measures_in, changes)
+    return {name: measure for name, measure in core_measures.items() if measure.rows}
 
 
 # ==== the figures of special aggregates, each computed from published tables as the office computes those of a node
@@ -202,9 +202,9 @@ def series_of(
     series, sets = Series(published), Sets(specials)
     tables = [series.latest[month] for month in series.months]
     for name in sets.ids:
-        found = aggregate_set(name, sets, tables, series.titles)
-        if found.rows:
-            series.specials[name] = found
+        aggregate = aggregate_set(name, sets, tables, series.titles)
+        if aggregate.rows:
+            series.specials[name] = aggregate
     series.core = core_of(core, series.latest)
     return series
 
@@ -245,7 +245,7 @@ def _cover(name: str, membership: Membership, codes: Iterable[str]) -> list[str]
         if depth_of(code) == 5:
             for node in at_and_above(code):
                 parts.setdefault(node, []).append(membership.has(name, code))
-    whole = {node for node, found in parts.items() if all(found)}
+    whole = {node for node, part in parts.items() if all(part)}
     return sorted(node for node in whole if not any(above in whole for above in [*at_and_above(node)][1:]))
 
 
@@ -293,11 +293,11 @@ class Computed:
         return self._level(link_of(month)) if self._members.get(before(month, 12)[:4]) else HUNDRED
 
     def _mean(self, month: str) -> Mean:
-        found = self._means.get(month)
-        if found is None:
+        mean = self._means.get(month)
+        if mean is None:
             rows = self._tables[month].rows
-            found = self._means[month] = _mean(rows, self._members[month[:4]])
-        return found
+            mean = self._means[month] = _mean(rows, self._members[month[:4]])
+        return mean
 
 
 def _mean(rows: Mapping[str, Row], members: Iterable[str]) -> Mean:
@@ -325,7 +325,7 @@ Vintages = dict[str, dict[str, list[Vintage]]]
 def vintages_of(series: Series) -> Vintages:
     """The figures of sets that further revisions changed. The revision of a month whose table was already published
     can change the figures of that month and of later months."""
-    found: Vintages = {name: {} for name in series.specials}
+    vintages: Vintages = {name: {} for name in series.specials}
     again = published_again(series)
     latest: dict[str, Table] = {}
     for moment, tables in by_moment(series):
@@ -335,10 +335,10 @@ def vintages_of(series: Series) -> Vintages:
         for name, it in series.specials.items() if months else ():
             computed = Computed(name, it.title, it.members, latest)
             for month in months:
-                row, known = computed.row(month), found[name].setdefault(month, [])
+                row, known = computed.row(month), vintages[name].setdefault(month, [])
                 if row and (not known or known[-1].row != row):
                     known.append(Vintage(latest[month], moment, row))
-    return {name: {month: it for month, it in months.items() if len(it) > 1} for name, months in found.items()}
+    return {name: {month: it for month, it in months.items() if len(it) > 1} for name, months in vintages.items()}
 
 
 def _is_later(table: Table, other: Optional[Table]) -> bool:
@@ -347,10 +347,10 @@ def _is_later(table: Table, other: Optional[Table]) -> bool:
 
 def by_moment(series: Series) -> Iterator[tuple[int, list[Table]]]:
     """The tables of each moment, in the order of moments."""
-    found: dict[int, list[Table]] = {}
+    tables: dict[int, list[Table]] = {}
     for table in series.vintages:
-        found.setdefault(table.moment, []).append(table)
-    yield from sorted(found.items())
+        tables.setdefault(table.moment, []).append(table)
+    yield from sorted(tables.items())
 
 
 def published_again(series: Series) -> list[str]:

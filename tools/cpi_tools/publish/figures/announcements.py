@@ -72,9 +72,9 @@ def planned_of(rows: Sequence[Sequence[str]], clock: Clock) -> tuple[Planned, ..
                 raise BadCalendar(f"row {number} has {len(row)} cells, and not {len(head)}")
             month, publishes = (row[head.index(name)].strip() for name in CALENDAR_COLUMNS)
             revisions[month] += 1
-            it = _read_planned(number, (month, revisions[month], publishes), clock)
+            plan = _read_planned(number, (month, revisions[month], publishes), clock)
             moved, reason = (row[head.index(name)].strip() if name in head else "" for name in (MOVED, REASON))
-            found.append(_with_move(number, it, (moved, " ".join(reason.split())), clock))
+            found.append(_with_move(number, plan, (moved, " ".join(reason.split())), clock))
     return tuple(sorted(found, key=lambda it: (it.moment, it.month, it.revision)))
 
 
@@ -91,20 +91,20 @@ def _read_planned(number: int, read: tuple[str, int, str], clock: Clock) -> Plan
         raise BadCalendar(f"row {number}: {fault}") from None
 
 
-def _with_move(number: int, it: Planned, read: tuple[str, str], clock: Clock) -> Planned:
+def _with_move(number: int, plan: Planned, read: tuple[str, str], clock: Clock) -> Planned:
     """The release with the time that was announced before, if the file gives one, and why it moved."""
     text, reason = read
     if not text:
-        return it._replace(reason=reason)
+        return plan._replace(reason=reason)
     try:
         moved = moment_of(text, clock)
     except ValueError as fault:
         raise BadCalendar(f"row {number}: {MOVED}: {fault}") from None
-    if moved == it.moment:
+    if moved == plan.moment:
         raise BadCalendar(
             f"row {number}: {MOVED} is {text}, the moment of publishing itself: write the one that was announced before"
         )
-    return it._replace(moved=moved, reason=reason)
+    return plan._replace(moved=moved, reason=reason)
 
 
 def moment_of(text: str, clock: Clock) -> int:
@@ -153,7 +153,7 @@ def coming(series: Series, planned: Sequence[Planned]) -> list[Planned]:
     """The announced releases that aren't published, by their times. A release whose time passed before a later table
     was published is no longer announced."""
     there = {(table.month, table.revision) for table in series.vintages}
-    return [it for it in planned if (it.month, it.revision) not in there and it.moment > series.moment]
+    return [plan for plan in planned if (plan.month, plan.revision) not in there and plan.moment > series.moment]
 
 
 Earlier = Mapping[tuple[str, int], Announced]
@@ -163,18 +163,18 @@ Earlier = Mapping[tuple[str, int], Announced]
 def announced_after(earlier: Earlier, planned: Iterable[Planned], series: Series) -> tuple[Announced, ...]:
     """All releases that are or were announced, after those of the previous pack. A published release has the time of
     its table."""
-    out = {(it.month, it.revision): it.moment for it in series.vintages}
+    out = {(vintage.month, vintage.revision): vintage.moment for vintage in series.vintages}
     found = dict(earlier)
-    for it in planned:
-        of = (it.month, it.revision)
+    for plan in planned:
+        of = (plan.month, plan.revision)
         # (what no pack announced, and is out, came when it came)
-        now = out.get(of, it.moment)
-        last = found.get(of) or Announced(*of, now if it.moved is None else it.moved)
+        now = out.get(of, plan.moment)
+        last = found.get(of) or Announced(*of, now if plan.moved is None else plan.moved)
         # (the reason of an earlier move is none of this one)
-        last = last._replace(reason=it.reason or (last.reason if now == last.moment else ""))
+        last = last._replace(reason=plan.reason or (last.reason if now == last.moment else ""))
         # (kept, since an office takes rows of releases that are out from its calendar)
-        if of in out and last.before is None and last.planned is None and it.moment != last.moment:
-            last = last._replace(planned=it.moment)
+        if of in out and last.before is None and last.planned is None and plan.moment != last.moment:
+            last = last._replace(planned=plan.moment)
         found[of] = last if of in out else _move(last, now, series.moment)
     for of, moment in out.items():
         if of in found:
@@ -194,9 +194,9 @@ def _move(last: Announced, moment: int, said: int) -> Announced:
 # ---- files
 
 
-def write_announced(found: Iterable[Announced], folder: Path) -> None:
+def write_announced(announcements: Iterable[Announced], folder: Path) -> None:
     """Writes them into the folder `data` of a pack, a row a line; without any the list is empty."""
-    rows = ",\n".join("  " + json.dumps(it._asdict(), ensure_ascii=False) for it in found)
+    rows = ",\n".join("  " + json.dumps(announcement._asdict(), ensure_ascii=False) for announcement in announcements)
     (folder / NAME).write_text(f'{{\n "announced": [\n{rows}\n ]\n}}\n', encoding="utf-8")
 
 
@@ -204,14 +204,14 @@ def announced_in(packs: Iterable[Path]) -> Earlier:
     """The announcements of several packs; for a pack of an earlier version, which has no such file, the times in its
     calendar. If two packs contain a release, the row counts in which it moved more often or later, in whichever
     pack; otherwise the row of the later pack. Raises BadAnnounced."""
-    found: dict[tuple[str, int], Announced] = {}
+    announcements: dict[tuple[str, int], Announced] = {}
     for pack in packs:
         path = pack / "data" / NAME
-        for it in _read(path) if path.exists() else _of_calendar(pack / "calendar.ics"):
-            known = found.get(it.of)
-            if known is None or (known.moves, known.said) <= (it.moves, it.said):
-                found[it.of] = it
-    return found
+        for announcement in _read(path) if path.exists() else _of_calendar(pack / "calendar.ics"):
+            known = announcements.get(announcement.of)
+            if known is None or (known.moves, known.said) <= (announcement.moves, announcement.said):
+                announcements[announcement.of] = announcement
+    return announcements
 
 
 def _read(path: Path) -> list[Announced]:
@@ -230,17 +230,22 @@ def _read(path: Path) -> list[Announced]:
     return rows
 
 
-def _is_row(it: Announced) -> bool:
+def _is_row(announcement: Announced) -> bool:
     """Whether a row has the form of an announcement."""
     numbers = (
-        it.revision,
-        it.moment,
-        it.moves,
-        it.said,
-        *(each for each in (it.before, it.planned) if each is not None),
+        announcement.revision,
+        announcement.moment,
+        announcement.moves,
+        announcement.said,
+        *(each for each in (announcement.before, announcement.planned) if each is not None),
     )
     is_counted = all(type(each) is int and each >= 0 for each in numbers)
-    return is_counted and isinstance(it.month, str) and bool(MONTH.fullmatch(it.month)) and isinstance(it.reason, str)
+    return (
+        is_counted
+        and isinstance(announcement.month, str)
+        and bool(MONTH.fullmatch(announcement.month))
+        and isinstance(announcement.reason, str)
+    )
 
 
 EVENT = re.compile(r"^UID:([0-9]{4}-[0-9]{2})-r([1-9])\..*^DTSTART:([0-9]{8}T[0-9]{6}Z)$", re.M | re.S)
@@ -256,8 +261,8 @@ def _of_calendar(path: Path) -> list[Announced]:
         return []
     except OSError as fault:
         raise BadAnnounced(because_of(fault)) from fault
-    found = (EVENT.search(event) for event in text.split("BEGIN:VEVENT\n") if IS_OUT not in event)
-    return [Announced(it[1], int(it[2]), _moment(it[3])) for it in found if it]
+    matches = (EVENT.search(event) for event in text.split("BEGIN:VEVENT\n") if IS_OUT not in event)
+    return [Announced(match[1], int(match[2]), _moment(match[3])) for match in matches if match]
 
 
 def _moment(stamp: str) -> int:
@@ -336,14 +341,14 @@ def reasons_of(rows: Sequence[Sequence[str]], clock: Clock) -> tuple[Reason, ...
     """The reasons of some rows, the first of which contains the names of the columns. Raises BadReasons."""
     head = [*rows[0]] if rows else []
     _test_head(head)
-    found: list[Reason] = []
+    reasons: list[Reason] = []
     for number, row in enumerate(rows[1:], 2):
         if any(row):
             if len(row) != len(head):
                 raise BadReasons(f"row {number} has {len(row)} cells, and not {len(head)}")
-            found.append(_reason(number, {name: " ".join(cell.split()) for name, cell in zip(head, row)}, clock))
-            _test_order(number, found)
-    return tuple(found)
+            reasons.append(_reason(number, {name: " ".join(cell.split()) for name, cell in zip(head, row)}, clock))
+            _test_order(number, reasons)
+    return tuple(reasons)
 
 
 def _test_head(head: Sequence[str]) -> None:
@@ -393,9 +398,9 @@ def _is_definition(name: str) -> bool:
     return name in CORRECTED or ID.fullmatch(name) is not None
 
 
-def _test_order(number: int, found: Sequence[Reason]) -> None:
+def _test_order(number: int, reasons: Sequence[Reason]) -> None:
     """Raises BadReasons if the last reason isn't after those of the same revision."""
-    last, mine = found[-1], [it for it in found[:-1] if it[:2] == found[-1][:2]]
+    last, mine = reasons[-1], [reason for reason in reasons[:-1] if reason[:2] == reasons[-1][:2]]
     if mine and (last.added is None or last.added <= (mine[-1].added or 0)):
         raise BadReasons(
             f"row {number}: {last.month}, revision {last.revision}, has a reason already: a further one needs in the"
@@ -411,39 +416,45 @@ def given_reasons(reasons: Iterable[Reason], series: Series, planned: Iterable[P
     published, and neither is a reason whose time is later than all published tables: its revision is still to come.
     Raises BadReasons if there is no such revision, or a reason was given before it."""
     reasons = [*reasons]
-    tables = {(it.month, it.revision): it for it in series.vintages} | _definitions(reasons, series)
-    announced = {(it.month, it.revision) for it in planned}
+    tables = {(vintage.month, vintage.revision): vintage for vintage in series.vintages} | _definitions(reasons, series)
+    announced = {(plan.month, plan.revision) for plan in planned}
     latest = max(table.moment for table in series.vintages)
     found: Reasons = {}
-    for it in reasons:
-        table = tables.get(it[:2])
+    for reason in reasons:
+        table = tables.get(reason[:2])
         if table is not None:
-            moment = table.moment if it.added is None else it.added
+            moment = table.moment if reason.added is None else reason.added
             if moment < table.moment:
                 raise BadReasons(
-                    f"a reason of {it.month}, revision {it.revision}, was added before the revision was out"
+                    f"a reason of {reason.month}, revision {reason.revision}, was added before the revision was out"
                 )
-            found.setdefault(it[:2], []).append(GivenReason(table, it.text, moment, it.texts))
-        elif it[:2] not in announced and (it.added is None or it.added <= latest or _is_definition(it.month)):
-            raise BadReasons(f"a reason names {it.month}, revision {it.revision}, which is neither out nor announced")
+            found.setdefault(reason[:2], []).append(GivenReason(table, reason.text, moment, reason.texts))
+        elif reason[:2] not in announced and (
+            reason.added is None or reason.added <= latest or _is_definition(reason.month)
+        ):
+            raise BadReasons(
+                f"a reason names {reason.month}, revision {reason.revision}, which is neither out nor announced"
+            )
     return found
 
 
 def _definitions(reasons: Iterable[Reason], series: Series) -> dict[tuple[str, int], Table]:
     """The stand-in for a table if a reason is about a special aggregate's definition. Raises BadReasons if there is
     no such aggregate, or the definition before has no reason."""
-    found: dict[tuple[str, int], Table] = {}
-    for it in reasons:
-        if _is_definition(it.month) and it[:2] not in found:
-            if it.month not in (*CORRECTED, *series.specials, *series.core):
+    definitions: dict[tuple[str, int], Table] = {}
+    for reason in reasons:
+        if _is_definition(reason.month) and reason[:2] not in definitions:
+            if reason.month not in (*CORRECTED, *series.specials, *series.core):
                 raise BadReasons(
-                    f"a reason names {it.month}, which is no special aggregate, and no measure of core inflation"
+                    f"a reason names {reason.month}, which is no special aggregate, and no measure of core inflation"
                 )
-            if it.revision > 2 and (it.month, it.revision - 1) not in found:
-                kind = "correction" if it.month in CORRECTED else "definition"
-                raise BadReasons(f"{it.month}, {kind} {it.revision}, has a reason, and the one before has none")
-            found[it.month, it.revision] = Table(it.month, it.revision, it.added or 0, "", NO_ROWS)
-    return found
+            if reason.revision > 2 and (reason.month, reason.revision - 1) not in definitions:
+                kind = "correction" if reason.month in CORRECTED else "definition"
+                raise BadReasons(f"{reason.month}, {kind} {reason.revision}, has a reason, and the one before has none")
+            definitions[reason.month, reason.revision] = Table(
+                reason.month, reason.revision, reason.added or 0, "", NO_ROWS
+            )
+    return definitions
 
 
 def definition_of(name: str, given: Iterable[tuple[str, int]]) -> int:
@@ -454,8 +465,8 @@ def definition_of(name: str, given: Iterable[tuple[str, int]]) -> int:
 
 def in_order(reasons: Reasons) -> Iterator[GivenReason]:
     """All of them, by month and revision."""
-    for _, found in sorted(reasons.items()):
-        yield from found
+    for _, reason in sorted(reasons.items()):
+        yield from reason
 
 
 # ==== The names of releases: of their tables, pages and cards. They stay for ever.

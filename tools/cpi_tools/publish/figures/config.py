@@ -187,20 +187,20 @@ def read_config(path: Path, known: KnownIds = KnownIds()) -> Config:
     Raises BadConfig, BadSpecials, BadCalendar, BadReasons, BadCounts, BadSeasonal, or a fault of `own_words`.
     """
     parser = _read_sections(path)
-    found = _office_words(parser)
-    press, own_colours = found.pop("press", ""), [found.pop(name, "") for name in ("colour", "colour_dark")]
-    quality, least_outlets = found.pop("quality", ""), _least_outlets(path, found.pop("least_outlets", ""))
-    averages = found.pop("average_prices", "")
-    profiles = found.pop("profiles", "").replace(",", " ").split()
+    words = _office_words(parser)
+    press, own_colours = words.pop("press", ""), [words.pop(name, "") for name in ("colour", "colour_dark")]
+    quality, least_outlets = words.pop("quality", ""), _least_outlets(path, words.pop("least_outlets", ""))
+    averages = words.pop("average_prices", "")
+    profiles = words.pop("profiles", "").replace(",", " ").split()
     ids = dict(parser["sdmx"]) if "sdmx" in parser else {}
     specials, calendar, reasons, about, core, seasonal = (
-        found.pop(name, "") for name in ("aggregates", "calendar", "revisions", "about", "core", "seasonal")
+        words.pop(name, "") for name in ("aggregates", "calendar", "revisions", "about", "core", "seasonal")
     )
     sections = {name: dict(parser[name]) for name in parser.sections() if name not in ("office", "sdmx")}
-    languages, digits = found.pop("languages", ""), found.pop("digits", LATIN)
+    languages, digits = words.pop("languages", ""), words.pop("digits", LATIN)
     try:
         speaks = read_languages(path, languages, digits, sections)
-        config = _config(found, ids, known, read_specials(path.parent / specials) if specials else ())
+        config = _config(words, ids, known, read_specials(path.parent / specials) if specials else ())
     except BadConfig as fault:
         raise BadConfig(f"{path}: {fault}") from None
     except BadLanguages as fault:
@@ -233,11 +233,11 @@ def read_config(path: Path, known: KnownIds = KnownIds()) -> Config:
 def _core(path: Path, name: str, specials: tuple[Special, ...]) -> tuple[CoreDefinition, ...]:
     """The measures of core inflation of a file; their ids are in the same list as those of special aggregates. Raises
     BadCore or BadConfig."""
-    found = read_core(path.parent / name)
-    twice = sorted({it.id for it in found} & {it.id for it in specials})
+    cores = read_core(path.parent / name)
+    twice = sorted({core.id for core in cores} & {special_aggregate.id for special_aggregate in specials})
     if twice:
         raise BadConfig(f"{path}: core: {twice[0]} is the id of a special aggregate")
-    return found
+    return cores
 
 
 def _press(path: Path, text: str, config: Config, core: Sequence[CoreDefinition]) -> PressNames:
@@ -246,7 +246,7 @@ def _press(path: Path, text: str, config: Config, core: Sequence[CoreDefinition]
         named = press_names(text, config.specials, core)
     except BadPress as fault:
         raise BadConfig(f"{path}: {fault}") from None
-    months = [named.since, *(it.since for it in config.all_rates if it.since > named.since)]
+    months = [named.since, *(rate.since for rate in config.all_rates if rate.since > named.since)]
     if named.ids and all(config.rates_in(month) != EXACT for month in months):
         raise BadConfig(f"{path}: press: sentences say changes with `rates = exact` only, and rates is {config.rates}")
     return named
@@ -273,10 +273,10 @@ class AverageRule(NamedTuple):
 
 def read_average_rule(path: Path) -> AverageRule:
     """The configuration of average prices. Raises BadConfig."""
-    found = _office_words(_read_sections(path))
-    least = _least_of_averages(path, _least_outlets(path, found.get("least_outlets", "")))
+    words = _office_words(_read_sections(path))
+    least = _least_of_averages(path, _least_outlets(path, words.get("least_outlets", "")))
     try:
-        return AverageRule(least, _minor_digits(found))
+        return AverageRule(least, _minor_digits(words))
     except BadConfig as fault:
         raise BadConfig(f"{path}: {fault}") from None
 
@@ -358,15 +358,15 @@ def _test_words(found: dict[str, str]) -> None:
 
 def _test_dated(references: tuple[Dated, ...], all_rates: tuple[Dated, ...], provisional: tuple[Dated, ...]) -> None:
     """Raises BadConfig if a reference period, a rule for changes or a number of provisional months isn't one."""
-    for it in references:
-        if not REFERENCE.fullmatch(it.value):
-            raise BadConfig(f"reference: {it.value} is neither a year like 2025 nor a month like 2025-12")
-    for it in all_rates:
-        if it.value not in RATES:
-            raise BadConfig(f"rates: {it.value} is neither {' nor '.join(RATES)}")
-    for it in provisional:
-        if it.value not in map(str, range(MOST_PROVISIONAL + 1)):
-            raise BadConfig(f"provisional: {it.value} isn't a number of months from 0 to {MOST_PROVISIONAL}")
+    for reference in references:
+        if not REFERENCE.fullmatch(reference.value):
+            raise BadConfig(f"reference: {reference.value} is neither a year like 2025 nor a month like 2025-12")
+    for reference in all_rates:
+        if reference.value not in RATES:
+            raise BadConfig(f"rates: {reference.value} is neither {' nor '.join(RATES)}")
+    for reference in provisional:
+        if reference.value not in map(str, range(MOST_PROVISIONAL + 1)):
+            raise BadConfig(f"provisional: {reference.value} isn't a number of months from 0 to {MOST_PROVISIONAL}")
 
 
 def _numbers(found: dict[str, str]) -> dict[str, Optional[int]]:
@@ -464,4 +464,4 @@ def dated_of(text: str) -> tuple[Dated, ...]:
 
 def value_in(values: tuple[Dated, ...], month: str) -> str:
     """The value of the release of a month."""
-    return [it.value for it in values if it.since <= month][-1]
+    return [value.value for value in values if value.since <= month][-1]

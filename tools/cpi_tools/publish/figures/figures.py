@@ -80,11 +80,11 @@ class Notes:
 
     def _letters(self, month: str, code: str, is_imputed: bool, is_break: bool) -> str:
         """The letters of a row."""
-        found = IMPUTED_MARK if is_imputed else ""
+        mark = IMPUTED_MARK if is_imputed else ""
         if month in self._first and self.first(month, code):
-            found += REVISED
-        found += BREAK if is_break else ""
-        return found + PROVISIONAL if month in self.last else found
+            mark += REVISED
+        mark += BREAK if is_break else ""
+        return mark + PROVISIONAL if month in self.last else mark
 
     def sentences(self, month: str, code: str) -> list[tuple[str, str]]:
         """The notes of a month's figures, each a letter and a sentence; of a break none, which has its own."""
@@ -189,8 +189,8 @@ class _Texts(dict[int, str]):
         self._digits = digits
 
     def __missing__(self, units: int) -> str:
-        found = self[units] = "" if units == NONE else write_fixed(units, self._digits)
-        return found
+        text = self[units] = "" if units == NONE else write_fixed(units, self._digits)
+        return text
 
 
 def _six_decimals(units: int) -> str:
@@ -232,18 +232,18 @@ class Known:
     def columns(self, figure: Figure, first: int = 0) -> list[array[int]]:
         """A kind of figure by month, from one on that is counted from 0, and then by code: made once, NONE if there is
         none."""
-        found = self._columns.get((figure.name, first))
-        if found is None:
-            found = [self.column(figure, month) for month in self.series.months[first:]]
-            self._columns[figure.name, first] = found
-        return found
+        column = self._columns.get((figure.name, first))
+        if column is None:
+            column = [self.column(figure, month) for month in self.series.months[first:]]
+            self._columns[figure.name, first] = column
+        return column
 
     def column(self, figure: Figure, month: str) -> array[int]:
         """A kind of figure of a month by code."""
-        found = self._of_months.get((figure.name, month))
-        if found is None:
-            found = self._of_months[figure.name, month] = self._make_column(figure, month)
-        return found
+        column = self._of_months.get((figure.name, month))
+        if column is None:
+            column = self._of_months[figure.name, month] = self._make_column(figure, month)
+        return column
 
     def _make_column(self, figure: Figure, month: str) -> array[int]:
         recent = self._recent
@@ -279,9 +279,9 @@ class Known:
         if self._places[0] is not rows.named:
             self._places = rows.named, [rows.place(code) for code in self._nodes]
         column = getattr(rows, name)
-        found = [None if place is None else column[place] for place in self._places[1]]
+        places = [None if place is None else column[place] for place in self._places[1]]
         of_sets = (it.rows.get(month) for it in series.specials.values())
-        return found + [None if row is None else getattr(row, name) for row in of_sets]
+        return places + [None if row is None else getattr(row, name) for row in of_sets]
 
 
 def _levels(known: Known, month: str) -> Iterable[Optional[int]]:
@@ -324,7 +324,9 @@ def _millionths(value: Optional[Parts]) -> Optional[int]:
 def _shares(known: Known, month: str) -> Iterable[Optional[int]]:
     whole = known.series.row(month, ALL_ITEMS)
     of_all = whole.weight if whole else 0
-    return (scale_ratio(1000 * it, of_all, 6) if it and of_all else None for it in known.values(month, "weight"))
+    return (
+        scale_ratio(1000 * value, of_all, 6) if value and of_all else None for value in known.values(month, "weight")
+    )
 
 
 LEVEL = Figure("level", 6, _levels)

@@ -42,7 +42,7 @@ class Base(NamedTuple):
 
 def in_words(figures: list[str], speech: Speech) -> str:
     """`the index and the monthly change`."""
-    return speech.list_texts([speech.t(it) for it in figures])
+    return speech.list_texts([speech.t(figure) for figure in figures])
 
 
 def hidden_bases(series: Series, row: Row, has_changes: bool = True, speech: Speech = SPEAKS_ENGLISH) -> dict[str, str]:
@@ -50,14 +50,14 @@ def hidden_bases(series: Series, row: Row, has_changes: bool = True, speech: Spe
     yet: figures that the published levels don't give, each computed again as the office computes and rounds it. Without
     its changes only the index is checked."""
     month = series.months[-1]
-    found: Figures = defaultdict(list)
+    bases: Figures = defaultdict(list)
     if not series.is_row_linked(month, row):
-        found[link_of(month)].append(INDEX)
+        bases[link_of(month)].append(INDEX)
     if has_changes and not series.is_change_shown(month, row, False):
-        found[before(month)].append(ON_MONTH)
+        bases[before(month)].append(ON_MONTH)
     if has_changes and not series.is_change_shown(month, row, True):
-        found[before(month, 12)].append(ON_YEAR)
-    return {earlier: in_words(figures, speech) for earlier, figures in found.items()}
+        bases[before(month, 12)].append(ON_YEAR)
+    return {earlier: in_words(figures, speech) for earlier, figures in bases.items()}
 
 
 def hidden_months(series: Series) -> frozenset[str]:
@@ -100,7 +100,7 @@ class Revised(NamedTuple):
 def revised_of(old: Table, new: Table) -> Revised:
     """The changes from a revision to the next one of the same month."""
     levels = [(code, old.rows[code].chained, row.chained) for code, row in new.rows.items()]
-    differing = [it for it in levels if it[1] != it[2]]
+    differing = [level for level in levels if level[1] != level[2]]
     differing.sort(key=lambda it: (-abs(it[2] - it[1]), it[0]))
     return Revised(old, new, len(differing), differing[:GREATEST_DIFFERENCES])
 
@@ -147,13 +147,13 @@ class Whole:
 
     def to_month(self, code: str) -> Optional[Ratio]:
         """The percentage points that a node contributes to the monthly change; None if there is no contribution."""
-        found = self.parts_of_month(code)
-        return Ratio(*found) if found else None
+        parts = self.parts_of_month(code)
+        return Ratio(*parts) if parts else None
 
     def to_year(self, code: str) -> Optional[Ratio]:
         """The percentage points that a node contributes to the annual change; None if there is no contribution."""
-        found = self.parts_of_year(code)
-        return Ratio(*found) if found else None
+        parts = self.parts_of_year(code)
+        return Ratio(*parts) if parts else None
 
     def parts_of_month(self, code: str) -> Optional[Parts]:
         """`to_month` as numerator and denominator."""
@@ -244,8 +244,8 @@ class Contributions:
     def below(self, month: str, to: str) -> list[Contribution]:
         """The contributions of all nodes directly below one in a month, including nodes that left in the year
         before."""
-        found = (self.of(month, code, to) for code in self.series.children(to))
-        return [each for each in found if each.to_month is not None or each.to_year is not None]
+        children = (self.of(month, code, to) for code in self.series.children(to))
+        return [each for each in children if each.to_month is not None or each.to_year is not None]
 
 
 def _none(_: str) -> Optional[Ratio]:
@@ -269,8 +269,8 @@ def average_change(series: Series, code: str, year: int) -> Optional[Ratio]:
 
 def full_years(series: Series) -> list[int]:
     """The years that have tables with rows of twelve months."""
-    found = [int(month[:4]) for month in series.months]
-    return sorted({year for year in found if found.count(year) == 12})
+    ints = [int(month[:4]) for month in series.months]
+    return sorted({year for year in ints if ints.count(year) == 12})
 
 
 def twelve_month_rate(series: Series, month: str, code: str) -> Optional[Ratio]:
@@ -341,7 +341,9 @@ class AsOf(Series):
         self.latest[of.month] = of
         self._rows = {month: table.rows for month, table in self.latest.items()}
         self.months = self.every = [month for month, table in self.latest.items() if table.rows]
-        self.vintages = [it for it in self.whole.vintages if it.month <= of.month and it.moment <= of.moment]
+        self.vintages = [
+            vintage for vintage in self.whole.vintages if vintage.month <= of.month and vintage.moment <= of.moment
+        ]
         self.specials, self.core, self._twelve = {}, {}, {}
         self.other_titles = self.whole.other_titles
         self.titles = {code: of.rows[code].title for code in whole.codes if code in of.rows}
@@ -357,7 +359,7 @@ class AsOf(Series):
         found = self._twelve.get(month)
         if found is None:
             months = [before(month, by) for by in range(12)]
-            levels = {code: [self.level(it, code) for it in months] for code in self.titles}
+            levels = {code: [self.level(month, code) for month in months] for code in self.titles}
             found = {code: sum(filter(None, each)) for code, each in levels.items() if None not in each}
             self._twelve[month] = found
         return found
@@ -377,8 +379,8 @@ class AsOf(Series):
 
     def runs(self, code: str) -> list[list[str]]:
         """The months of a node's runs up to the release."""
-        found = (run[: bisect.bisect_right(run, self.of.month)] for run in self._runs(code))
-        return [run for run in found if run]
+        runs = (run[: bisect.bisect_right(run, self.of.month)] for run in self._runs(code))
+        return [run for run in runs if run]
 
     def children(self, code: str) -> list[str]:
         """The nodes directly below one, in any month."""

@@ -151,8 +151,8 @@ def _parts(colour: str) -> list[int]:
 
 def _light(colour: str) -> float:
     """The relative luminance of a colour (WCAG 2.2)."""
-    parts = (it / 255 for it in _parts(colour))
-    red, green, blue = (it / 12.92 if it <= 0.04045 else math.pow((it + 0.055) / 1.055, 2.4) for it in parts)
+    parts = (part / 255 for part in _parts(colour))
+    red, green, blue = (part / 12.92 if part <= 0.04045 else math.pow((part + 0.055) / 1.055, 2.4) for part in parts)
     return 0.2126 * red + 0.7152 * green + 0.0722 * blue
 
 
@@ -245,14 +245,14 @@ def _read_titles(path: Path) -> dict[str, str]:
         raise BadLanguages(f"{path}: {' '.join(str(fault).split())}") from fault
     if not rows or rows[0] != TITLES_HEAD:
         raise BadLanguages(f"{path}: its first row isn't {','.join(TITLES_HEAD)}")
-    found = dict[str, str]()
+    titles = dict[str, str]()
     for number, row in enumerate(rows[1:], 2):
         if any(row):
             code, title = _title(path, number, row)
-            if code in found:
+            if code in titles:
                 raise BadLanguages(f"{path}: row {number}: {code} has a row already")
-            found[code] = title
-    return found
+            titles[code] = title
+    return titles
 
 
 def _title(path: Path, number: int, row: Sequence[str]) -> tuple[str, str]:
@@ -335,14 +335,18 @@ class OwnWords(NamedTuple):
         the first language that has it."""
         found = []
         for section in SECTIONS:
-            tags = [it for it in (tag, *self.texts) if section.name in self.texts.get(it, {})]
+            tags = [text for text in (tag, *self.texts) if section.name in self.texts.get(text, {})]
             if tags and section.is_first == is_first:
                 found.append(Said(section, tags[0], self.texts[tags[0]][section.name]))
         return found
 
     def unsaid(self) -> list[Section]:
         """The sections that no language has; none if there is no folder."""
-        return [it for it in SECTIONS if self.texts and not any(it.name in found for found in self.texts.values())]
+        return [
+            section
+            for section in SECTIONS
+            if self.texts and not any(section.name in text for text in self.texts.values())
+        ]
 
     def logo(self, tag: str) -> Optional[Logo]:
         """The logo of the pages in a language."""
@@ -350,8 +354,8 @@ class OwnWords(NamedTuple):
 
     def lacking(self) -> Iterator[str]:
         """A line for each language that lacks sections, with what belongs into them."""
-        for tag, found in self.texts.items():
-            files = [f"{it.file} ({it.wanted})" for it in SECTIONS if it.name not in found]
+        for tag, text in self.texts.items():
+            files = [f"{section.file} ({section.wanted})" for section in SECTIONS if section.name not in text]
             if files:
                 yield f"{self.folder / tag} lacks {'; '.join(files)}"
 
@@ -365,10 +369,10 @@ def read_own_words(folder: Path, tags: Sequence[str]) -> OwnWords:
     for name in names:
         if name not in (*languages, LOGO):
             raise BadOwnWords(f"{folder / name} is neither {LOGO} nor the folder of a language: {', '.join(languages)}")
-    all_tags = [*tags, *(it for it in languages if it in names and it not in tags)]
+    all_tags = [*tags, *(language for language in languages if language in names and language not in tags)]
     texts = {tag: _read_texts(folder / tag) for tag in all_tags}
     places = {"": folder, **{tag: folder / tag for tag in all_tags}}
-    logos = {tag: read_logo(it / LOGO) for tag, it in places.items() if (it / LOGO).exists()}
+    logos = {tag: read_logo(place / LOGO) for tag, place in places.items() if (place / LOGO).exists()}
     return OwnWords(folder, {tag: texts[tag] for tag in tags}, logos)
 
 
@@ -377,19 +381,19 @@ def _read_texts(folder: Path) -> dict[str, Markup]:
     # (here, since its packages needn't be there for the other tools)
     from .plain_markdown import read_markdown
 
-    files = {it.file: it.name for it in SECTIONS}
-    found: dict[str, Markup] = {}
+    files = {section.file: section.name for section in SECTIONS}
+    texts: dict[str, Markup] = {}
     for name in _names_in(folder) if folder.exists() else ():
         if name not in (*files, LOGO):
             raise BadOwnWords(f"{folder / name} is no section; they are {', '.join(files)}, and {LOGO}")
         if name != LOGO and (html := read_markdown(folder / name)):
-            found[files[name]] = html
-    return found
+            texts[files[name]] = html
+    return texts
 
 
 def _names_in(folder: Path) -> list[str]:
     """The files in a folder, except those that an editor or a system hides."""
     try:
-        return sorted(it.name for it in folder.iterdir() if not it.name.startswith("."))
+        return sorted(path.name for path in folder.iterdir() if not path.name.startswith("."))
     except OSError as fault:
         raise BadOwnWords(because_of(fault)) from fault

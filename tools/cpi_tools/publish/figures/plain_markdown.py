@@ -88,9 +88,9 @@ def html_of(text: str) -> Markup:
 def _test_signs(text: str, line: int) -> None:
     """Raises BadMarkdown if a text contains a character that isn't allowed, or one that turns its direction."""
     for signs, says in ((FORBIDDEN, "which no text has"), (DIRECTIONS, "which turns the direction of a text unseen")):
-        found = signs.search(text)
-        if found:
-            raise BadMarkdown(f"line {line}: the character U+{ord(found[0]):04X}, {says}")
+        match = signs.search(text)
+        if match:
+            raise BadMarkdown(f"line {line}: the character U+{ord(match[0]):04X}, {says}")
 
 
 def _parts(tokens: Sequence[Any]) -> Iterator[Markup]:

@@ -82,16 +82,16 @@ def methods_of(rows: Sequence[Sequence[str]]) -> tuple[Method, ...]:
     """The series of some rows, the first of which contains the names of the columns. Raises BadSeasonal."""
     if not rows or tuple(rows[0]) != HEAD:
         raise BadSeasonal(f"its first row isn't {','.join(HEAD)}")
-    found = [
+    methods = [
         _method(line, [" ".join(cell.split()) for cell in row]) for line, row in enumerate(rows[1:], 2) if any(row)
     ]
-    codes = [it.code for it in found]
-    for it in found:
-        if codes.count(it.code) > 1:
-            raise BadSeasonal(f"row {it.line}: {it.code} has two rows")
-    if not found:
+    codes = [method.code for method in methods]
+    for method in methods:
+        if codes.count(method.code) > 1:
+            raise BadSeasonal(f"row {method.line}: {method.code} has two rows")
+    if not methods:
         raise BadSeasonal("it has no series")
-    return tuple(found)
+    return tuple(methods)
 
 
 def _method(line: int, row: Sequence[str]) -> Method:
@@ -164,16 +164,16 @@ def read_values(path: Path, code: str) -> Values:
     """The figures of a series in a file. Raises BadSeasonal, with the file and the line."""
     text = _text_of(path)
     cells = _saved_cells(path, text) if path.suffix.lower() in SAVED else _table_cells(path, text, code)
-    found: dict[str, Value] = {}
+    values: dict[str, Value] = {}
     for cell in cells:
         at = f"{path}, line {cell.line}"
         month = _month(cell.month)
         if not month:
             raise BadSeasonal(f"{at}: {cell.month or 'an empty text'} is no month such as 2026-01 or 2026-01-01")
-        if month in found:
-            raise BadSeasonal(f"{at}: {month} is there a second time, after line {found[month].line}")
-        found[month] = Value(_millionths(at, cell, code), cell.line)
-    return found
+        if month in values:
+            raise BadSeasonal(f"{at}: {month} is there a second time, after line {values[month].line}")
+        values[month] = Value(_millionths(at, cell, code), cell.line)
+    return values
 
 
 def _text_of(path: Path) -> str:
@@ -235,8 +235,8 @@ def _millionths(at: str, cell: Cell, code: str) -> int:
     text = cell.text.replace(",", ".", 1) if cell.has_comma else cell.text
     if NUMBER.fullmatch(text):
         units = Decimal(text).scaleb(6)
-        if 0 < units <= MOST and (found := int(units.quantize(Decimal(1), ROUND_HALF_UP))):
-            return found
+        if 0 < units <= MOST and (millionths := int(units.quantize(Decimal(1), ROUND_HALF_UP))):
+            return millionths
     raise BadSeasonal(f"{at}: {cell.text} of {code} is no index above 0 such as 104.2")
 
 
@@ -258,7 +258,7 @@ MOST_PERCENT = 2
 
 def series_of_office(seasonal: Seasonal, series: Series, shown: Shown) -> dict[str, SeasonalSeries]:
     """The adjusted series of an office by code, in the order of its list. Raises BadSeasonal."""
-    return {it.code: _series_of(seasonal.folder, it, series, shown) for it in seasonal.methods}
+    return {method.code: _series_of(seasonal.folder, method, series, shown) for method in seasonal.methods}
 
 
 def months_of(series: Series, of: Method, folder: Path) -> list[str]:
@@ -288,14 +288,14 @@ def _series_of(folder: Path, of: Method, series: Series, shown: Shown) -> Season
 
 def _test_levels(path: Path, code: str, levels: Values, published: Mapping[str, object]) -> None:
     """Raises BadSeasonal if the levels that were adjusted aren't the published ones of the first months."""
-    for month, it in levels.items():
+    for month, level in levels.items():
         if month not in published:
-            raise BadSeasonal(f"{path}, line {it.line}: {code} has no published index in {month}")
+            raise BadSeasonal(f"{path}, line {level.line}: {code} has no published index in {month}")
         now = published[month]
-        if it.millionths != now:
+        if level.millionths != now:
             assert isinstance(now, int)
             raise BadSeasonal(
-                f"{path}, line {it.line}: {code} was {write_fixed(it.millionths, 6)} in {month} when it was adjusted, and"
+                f"{path}, line {level.line}: {code} was {write_fixed(level.millionths, 6)} in {month} when it was adjusted, and"
                 f" {write_fixed(now, 6)} is published: cpi-tools seasonal writes the levels, which are to be adjusted again"
             )
     lacking = [month for month in published if month not in levels]

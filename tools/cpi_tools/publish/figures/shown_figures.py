@@ -83,18 +83,18 @@ class Shown:
 
     def part(self, series: Series) -> Shown:
         """The figures of a part of the tables, which need not contain the reference period itself."""
-        found = copy.copy(self)
-        found.series, last = series, series.every[-1]
-        found.__dict__.pop("_factors", None)
+        copy_ = copy.copy(self)
+        copy_.series, last = series, series.every[-1]
+        copy_.__dict__.pop("_factors", None)
         bases = ((code, self._bases.get(code)) for code in series.all_titles) if self.reference else ()
-        found._bases = {code: base and (base[0], min(base[1], last), base[2]) for code, base in bases}
-        return found
+        copy_._bases = {code: base and (base[0], min(base[1], last), base[2]) for code, base in bases}
+        return copy_
 
     def spoken(self, speech: Speech) -> Shown:
         """The figures for readers of another language."""
-        found = copy.copy(self)
-        found.speech = speech
-        return found
+        copy_ = copy.copy(self)
+        copy_.speech = speech
+        return copy_
 
     @property
     def bases(self) -> Mapping[str, Optional[tuple[str, str, Ratio]]]:
@@ -109,10 +109,10 @@ class Shown:
 
     def _base_in(self, month: str, code: str) -> Optional[Ratio]:
         """The level of the reference period for a level of a month; December before a run belongs to it."""
-        found = self._bases.get(code)
-        if found is None or not link_of(found[0]) <= month <= found[1]:
+        base = self._bases.get(code)
+        if base is None or not link_of(base[0]) <= month <= base[1]:
             return None
-        return found[2]
+        return base[2]
 
     def find_reference(self, month: str, code: str) -> str:
         """The period in which a node is 100, for a level of a month."""
@@ -133,11 +133,11 @@ class Shown:
 
     def row(self, month: str, code: str) -> Optional[Row]:
         """The row of a node, with the changes that are shown."""
-        found = self.series.row(month, code)
-        if found is None or self.rates == EXACT:
-            return found
+        row = self.series.row(month, code)
+        if row is None or self.rates == EXACT:
+            return row
         monthly, annual = (self.change(month, code, is_annual) for is_annual in (False, True))
-        return found._replace(month_change=found.month_change if monthly is None else monthly, year_change=annual)
+        return row._replace(month_change=row.month_change if monthly is None else monthly, year_change=annual)
 
     def text(self, month: str, code: str, digits: int = 6) -> str:
         """A node's level with some decimals, rounded once; empty without a row."""
@@ -150,8 +150,8 @@ class Shown:
 
     def units(self, months: Sequence[str], code: str, digits: int = 6) -> list[Optional[int]]:
         """The levels in some months, in units of the last decimal; None without a row."""
-        found = self._ratios(months, code, self.series.column(months, code, "chained"))
-        return [None if it is None else scale_ratio(*it, digits) for it in found]
+        ratios = self._ratios(months, code, self.series.column(months, code, "chained"))
+        return [None if ratio is None else scale_ratio(*ratio, digits) for ratio in ratios]
 
     def units_of_month(
         self, month: str, codes: Iterable[str], chained: Iterable[Optional[int]], digits: int
@@ -159,8 +159,8 @@ class Shown:
         """Chained levels of some nodes in a month, in units of the last of some decimals."""
         factors, by = self._factors, 10**digits
         for code, level in zip(codes, chained):
-            it = factors.get(code)
-            over, under = it[2:] if it and it[0] <= month <= it[1] else (1, 10**6)
+            factor = factors.get(code)
+            over, under = factor[2:] if factor and factor[0] <= month <= factor[1] else (1, 10**6)
             yield None if level is None else round_ratio(level * over * by, under)
 
     @functools.cached_property
@@ -168,11 +168,11 @@ class Shown:
         """By node the months, December before a run among them, whose levels are linked to the reference period, and what a
         chained level of these is multiplied by and divided by, to be in points of what is shown."""
         bases = ((code, base) for code, base in self._bases.items() if base)
-        return {code: (link_of(it[0]), it[1], 100 * it[2].under, it[2].over * 10**6) for code, it in bases}
+        return {code: (link_of(base[0]), base[1], 100 * base[2].under, base[2].over * 10**6) for code, base in bases}
 
     def numbers(self, months: Sequence[str], code: str, chained: Sequence[Optional[int]]) -> list[Optional[float]]:
         """Chained levels of a node in some months as numbers for a picture, in points of what is shown."""
-        return [None if it is None else it[0] / it[1] for it in self._ratios(months, code, chained)]
+        return [None if ratio is None else ratio[0] / ratio[1] for ratio in self._ratios(months, code, chained)]
 
     def _ratios(
         self, months: Sequence[str], code: str, chained: Sequence[Optional[int]]
@@ -180,8 +180,11 @@ class Shown:
         """Chained levels of a node in some months, in points of what is shown, as `of_level` has each of them."""
         if code not in self._factors:
             return (None if it is None else (it, 10**6) for it in chained)
-        (first, last, by, under), found = self._factors[code], zip(months, chained)
-        return (None if it is None else (by * it, under) if first <= at <= last else (it, 10**6) for at, it in found)
+        (first, last, by, under), ratios = self._factors[code], zip(months, chained)
+        return (
+            None if ratio is None else (by * ratio, under) if first <= at <= last else (ratio, 10**6)
+            for at, ratio in ratios
+        )
 
     def average(self, code: str, year: int) -> Optional[Ratio]:
         """The mean of a node's twelve levels in a year, in points of what is shown."""
@@ -211,7 +214,11 @@ class Shown:
         """The printed level so many months before; December before a run has the level that it began from."""
         earlier = before(month, by)
         chained = self.series.level(earlier, code)
-        if chained is None and link_of(month) == earlier and month[:4] in {it[:4] for it in self.series.starts(code)}:
+        if (
+            chained is None
+            and link_of(month) == earlier
+            and month[:4] in {start[:4] for start in self.series.starts(code)}
+        ):
             return self._print_level(HUNDRED, earlier, code)
         return None if chained is None else self._print_level(chained, earlier, code)
 

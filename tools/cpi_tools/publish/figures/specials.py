@@ -63,13 +63,13 @@ def specials_of(rows: Sequence[Sequence[str]]) -> tuple[Special, ...]:
     if not rows or [*rows[0]] not in (HEAD, [*HEAD, FROM]):
         raise BadSpecials(f"its first row isn't {','.join(HEAD)}, with or without {FROM}")
     wide = len(rows[0])
-    found = [_special(number, row, wide) for number, row in enumerate(rows[1:], 2) if any(row)]
-    _test_order(found)
-    for since in sorted({it.since for it in found}):
-        by_id = in_force(found, since)
-        for it in by_id.values():
-            _test_names(it, by_id, {other.id for other in found})
-    return tuple(found)
+    special_aggregates = [_special(number, row, wide) for number, row in enumerate(rows[1:], 2) if any(row)]
+    _test_order(special_aggregates)
+    for since in sorted({aggregate.since for aggregate in special_aggregates}):
+        by_id = in_force(special_aggregates, since)
+        for special_aggregate in by_id.values():
+            _test_names(special_aggregate, by_id, {other.id for other in special_aggregates})
+    return tuple(special_aggregates)
 
 
 def _special(number: int, row: Sequence[str], wide: int) -> Special:
@@ -88,23 +88,25 @@ def _special(number: int, row: Sequence[str], wide: int) -> Special:
     return Special(name, title, tuple(inside.split()), tuple(outside.split()), since)
 
 
-def _test_order(found: Sequence[Special]) -> None:
+def _test_order(special_aggregates: Sequence[Special]) -> None:
     """Raises BadSpecials if a further row of a set doesn't begin after the one before."""
     last: dict[str, Special] = {}
-    for it in found:
-        earlier = last.get(it.id)
-        if earlier and it.since <= earlier.since:
+    for aggregate in special_aggregates:
+        earlier = last.get(aggregate.id)
+        if earlier and aggregate.since <= earlier.since:
             raise BadSpecials(
-                f"{it.id} has two rows: the further one needs in the column {FROM} the January from which on it holds"
+                f"{aggregate.id} has two rows: the further one needs in the column {FROM} the January from which on it holds"
             )
-        if not earlier and not it.inside:
-            raise BadSpecials(f"{it.id} ends before it has anything in it")
-        last[it.id] = it
+        if not earlier and not aggregate.inside:
+            raise BadSpecials(f"{aggregate.id} ends before it has anything in it")
+        last[aggregate.id] = aggregate
 
 
 def in_force(specials: Iterable[Special], month: str) -> dict[str, Special]:
     """By id the row of each set that holds in a month; none of a set that begins later."""
-    return {it.id: it for it in specials if it.since <= month}
+    return {
+        special_aggregate.id: special_aggregate for special_aggregate in specials if special_aggregate.since <= month
+    }
 
 
 def _test_names(special: Special, by_id: Mapping[str, Special], ids: set[str]) -> None:
@@ -118,14 +120,14 @@ def _test_names(special: Special, by_id: Mapping[str, Special], ids: set[str]) -
 
 def _reach(special: Special, by_id: Mapping[str, Special]) -> set[str]:
     """The ids of all sets that a set is made of, through other sets too."""
-    found: set[str] = set()
+    reaches: set[str] = set()
     ahead = [*special.all_names]
     while ahead:
         name = ahead.pop()
-        if name in by_id and name not in found:
-            found.add(name)
+        if name in by_id and name not in reaches:
+            reaches.add(name)
             ahead += by_id[name].all_names
-    return found
+    return reaches
 
 
 class Sets:
@@ -138,33 +140,33 @@ class Sets:
     @property
     def ids(self) -> list[str]:
         """All ids in the order of the file."""
-        return [*dict.fromkeys(it.id for it in self._rows)]
+        return [*dict.fromkeys(row.id for row in self._rows)]
 
     def title(self, name: str) -> str:
         """The title of a set, from its last row."""
-        return [it.title for it in self._rows if it.id == name][-1]
+        return [row.title for row in self._rows if row.id == name][-1]
 
     def last(self, name: str) -> Special:
         """The last row of a set that has something in it."""
-        return [it for it in self._rows if it.id == name and it.inside][-1]
+        return [row for row in self._rows if row.id == name and row.inside][-1]
 
     def in_month(self, month: str) -> Membership:
         """The sets to which each elementary aggregate belongs in a month."""
-        return self._known(max((it.since for it in self._rows if it.since <= month), default=""))
+        return self._known(max((row.since for row in self._rows if row.since <= month), default=""))
 
     def _membership(self, since: str) -> Membership:
         return Membership(in_force(self._rows, since).values())
 
     def unknown(self, codes: Iterable[str]) -> list[str]:
         """The codes that sets name and that aren't among some."""
-        return sorted({name for it in self._rows for name in it.all_names} - {*codes, *self.ids})
+        return sorted({name for row in self._rows for name in row.all_names} - {*codes, *self.ids})
 
 
 class Membership:
     """Which elementary aggregates belong to which sets, each of which has one row."""
 
     def __init__(self, specials: Iterable[Special]):
-        self._specials = {it.id: it for it in specials}
+        self._specials = {special_aggregate.id: special_aggregate for special_aggregate in specials}
         self._known: dict[tuple[str, str], bool] = {}
 
     def has(self, name: str, code: str) -> bool:
@@ -235,9 +237,9 @@ def definitions_of(rows: Sequence[Sequence[str]]) -> tuple[CoreDefinition, ...]:
     if not rows or [*rows[0]] not in (CORE_HEAD, [*CORE_HEAD, FROM]):
         raise BadCore(f"its first row isn't {','.join(CORE_HEAD)}, with or without {FROM}")
     wide = len(rows[0])
-    found = [_definition(number, row, wide) for number, row in enumerate(rows[1:], 2) if any(row)]
-    _test_core_order(found)
-    return tuple(found)
+    definitions = [_definition(number, row, wide) for number, row in enumerate(rows[1:], 2) if any(row)]
+    _test_core_order(definitions)
+    return tuple(definitions)
 
 
 def _definition(number: int, row: Sequence[str], wide: int) -> CoreDefinition:
@@ -264,7 +266,7 @@ def _ends(number: int, name: str, trim: str) -> tuple[int, int]:
     if not trim:
         return 0, 0
     read = [PERCENT.fullmatch(part) for part in trim.split()]
-    ends = [int(it[1]) * 100 + int((it[2] or "").ljust(2, "0")) for it in read if it]
+    ends = [int(match[1]) * 100 + int((match[2] or "").ljust(2, "0")) for match in read if match]
     if len(ends) != len(read) or len(ends) > 2 or not 0 < sum(ends) * (3 - len(ends)) < WHOLE:
         raise BadCore(
             f"row {number}: {name} trims {trim}: wanted percent of all weight at each end, such as 15, or at the lower and"
@@ -273,26 +275,28 @@ def _ends(number: int, name: str, trim: str) -> tuple[int, int]:
     return ends[0], ends[-1]
 
 
-def _test_core_order(found: Sequence[CoreDefinition]) -> None:
+def _test_core_order(core_definitions: Sequence[CoreDefinition]) -> None:
     """Raises BadCore if a further row of a measure doesn't begin after the one before, or makes shares of changes."""
     last: dict[str, CoreDefinition] = {}
-    for it in found:
-        earlier = last.get(it.id)
-        if earlier and it.since <= earlier.since:
+    for definition in core_definitions:
+        earlier = last.get(definition.id)
+        if earlier and definition.since <= earlier.since:
             raise BadCore(
-                f"{it.id} has two rows: the further one needs in the column {FROM} the January from which on it holds"
+                f"{definition.id} has two rows: the further one needs in the column {FROM} the January from which on it holds"
             )
-        if not earlier and not it.measure:
-            raise BadCore(f"{it.id} ends before it is anything")
-        if earlier and it.measure and earlier.measure and it.is_share != earlier.is_share:
-            raise BadCore(f"{it.id} is a share in one row and a change in another: give one of them an id of its own")
-        last[it.id] = it
+        if not earlier and not definition.measure:
+            raise BadCore(f"{definition.id} ends before it is anything")
+        if earlier and definition.measure and earlier.measure and definition.is_share != earlier.is_share:
+            raise BadCore(
+                f"{definition.id} is a share in one row and a change in another: give one of them an id of its own"
+            )
+        last[definition.id] = definition
 
 
-def definition_in(found: Sequence[CoreDefinition], month: str) -> CoreDefinition:
+def definition_in(core_definitions: Sequence[CoreDefinition], month: str) -> CoreDefinition:
     """The row of a measure that holds in a month; `found` are all rows of it. Before the first one it is nothing."""
-    own = [it for it in found if it.since <= month]
-    return own[-1] if own else found[0]._replace(measure="")
+    own = [definition for definition in core_definitions if definition.since <= month]
+    return own[-1] if own else core_definitions[0]._replace(measure="")
 
 
 # ==== the aggregates and measures that the sentences of releases name: the word `press` of a configuration, `FOOD CORE
@@ -319,21 +323,29 @@ def press_names(text: str, specials: Sequence[Special], core: Sequence[CoreDefin
     """The names of a text, which are among some special aggregates and measures. Raises BadPress."""
     read = PRESS.fullmatch(text.replace(",", " ").strip())
     assert read
-    found = PressNames(tuple(read[1].split()), read[2] or "")
-    for name in found.ids:
-        rows = [(it.since, bool(it.inside)) for it in specials if it.id == name]
-        rows += [(it.since, bool(it.measure)) for it in core if it.id == name]
+    names = PressNames(tuple(read[1].split()), read[2] or "")
+    for name in names.ids:
+        rows = [
+            (special_aggregate.since, bool(special_aggregate.inside))
+            for special_aggregate in specials
+            if special_aggregate.id == name
+        ]
+        rows += [
+            (core_definition.since, bool(core_definition.measure))
+            for core_definition in core
+            if core_definition.id == name
+        ]
         if not rows:
             raise BadPress(f"press: {name} is no id of `aggregates` or `core`")
-        if any(it.is_share for it in core if it.id == name):
+        if any(core_definition.is_share for core_definition in core if core_definition.id == name):
             raise BadPress(
                 f"press: {name} is a share, and no sentence says one: wanted sets, a median or trimmed means"
             )
-        if not _has_some(rows, found.since):
-            raise BadPress(f"press: {name} ends before {found.since}, when sentences begin to name it")
-    if len({*found.ids}) < len(found.ids):
+        if not _has_some(rows, names.since):
+            raise BadPress(f"press: {name} ends before {names.since}, when sentences begin to name it")
+    if len({*names.ids}) < len(names.ids):
         raise BadPress("press names an id twice")
-    return found
+    return names
 
 
 def _has_some(rows: Sequence[tuple[str, bool]], since: str) -> bool:

@@ -96,8 +96,8 @@ def choice_of(outlets: Outlets, least: int, earlier: Iterable[Choice]) -> Choice
     """The figures that a release shows, given the releases that are already published."""
     earlier = [*earlier]
     # (of these anybody has the sum: all items less what is shown)
-    sums = {it.hidden for it in earlier if it.has_total and it.hidden}
-    shown = frozenset[str]().union(*(it.divisions - it.hidden for it in earlier))
+    sums = {choice.hidden for choice in earlier if choice.has_total and choice.hidden}
+    shown = frozenset[str]().union(*(choice.divisions - choice.hidden for choice in earlier))
     few = frozenset(division for division, own in outlets.items() if len(own) < least)
     hidden = few.union(*sums).intersection(outlets)
     if hidden and not sums and not hidden & shown:
@@ -111,7 +111,7 @@ def _with_partners(hidden: frozenset[str], outlets: Outlets, least: int, shown: 
     """Hidden divisions with the partners that are hidden for them, none of which ever had figures; without partners
     if all of them aren't enough."""
     group = hidden
-    for division in sorted(frozenset(outlets) - hidden - shown, key=lambda it: (len(outlets[it]), it)):
+    for division in sorted(frozenset(outlets) - hidden - shown, key=lambda outlet: (len(outlets[outlet]), outlet)):
         if _is_group(group, outlets, least):
             break
         group |= {division}
@@ -263,18 +263,20 @@ def parse_averages(rows: Sequence[Sequence[str]], digits: int, least: int) -> tu
     """The averages of some rows, the first of which contains the names of the columns. Raises BadAverages."""
     if not rows or tuple(rows[0]) != HEAD:
         raise BadAverages(f"its first row is {','.join(rows[0]) if rows else 'missing'}: wanted {','.join(HEAD)}")
-    found = [_parse_average(number, row, digits) for number, row in enumerate(rows[1:], 2)]
+    averages = [_parse_average(number, row, digits) for number, row in enumerate(rows[1:], 2)]
     now = dict[Key, int]()
-    for number, it in enumerate(found, 2):
-        wanted = FEWEST_OUTLETS if it.status == SUPERSEDED else least
-        if it.mean and it.mean.outlets < wanted:
+    for number, average in enumerate(averages, 2):
+        wanted = FEWEST_OUTLETS if average.status == SUPERSEDED else least
+        if average.mean and average.mean.outlets < wanted:
             raise BadAverages(
-                f"row {number}: {it.item} of {it.month} has {it.mean.outlets} outlets: wanted least_outlets, {wanted}, or"
+                f"row {number}: {average.item} of {average.month} has {average.mean.outlets} outlets: wanted least_outlets, {wanted}, or"
                 " a correction of it that says why it is hidden"
             )
-        if it.status != SUPERSEDED and now.setdefault(it.key, number) != number:
-            raise BadAverages(f"row {number}: {it.item} of {it.month} is in row {now[it.key]} too: wanted one row")
-    return tuple(found)
+        if average.status != SUPERSEDED and now.setdefault(average.key, number) != number:
+            raise BadAverages(
+                f"row {number}: {average.item} of {average.month} is in row {now[average.key]} too: wanted one row"
+            )
+    return tuple(averages)
 
 
 def _parse_average(number: int, row: Sequence[str], digits: int) -> Average:

@@ -71,12 +71,12 @@ class Versions:
         """`above` is the greatest version that a pack without rows shows, empty if it shows none."""
         self._above = above
         self._rows: dict[tuple[str, str], Artefact] = {}
-        for it in before:
-            earlier = self._rows.get((it.kind, it.id))
-            if earlier is None or numbers_of(earlier.version) < numbers_of(it.version):
-                self._rows[it.kind, it.id] = it
-            elif numbers_of(earlier.version) == numbers_of(it.version) and earlier.sum != it.sum:
-                self._rows[it.kind, it.id] = earlier._replace(sum="")
+        for artefact in before:
+            earlier = self._rows.get((artefact.kind, artefact.id))
+            if earlier is None or numbers_of(earlier.version) < numbers_of(artefact.version):
+                self._rows[artefact.kind, artefact.id] = artefact
+            elif numbers_of(earlier.version) == numbers_of(artefact.version) and earlier.sum != artefact.sum:
+                self._rows[artefact.kind, artefact.id] = earlier._replace(sum="")
 
     @property
     def rows(self) -> list[Artefact]:
@@ -98,7 +98,8 @@ class Versions:
     def write(self, folder: Path) -> None:
         """Writes them into the folder `data` of a pack, a row a line; nothing if there is none."""
         rows = ",\n".join(
-            "  " + json.dumps({"class": it.kind, "id": it.id, "version": it.version, "sum": it.sum}) for it in self.rows
+            "  " + json.dumps({"class": row.kind, "id": row.id, "version": row.version, "sum": row.sum})
+            for row in self.rows
         )
         if rows:
             (folder / NAME).write_text(f'{{\n "artefacts": [\n{rows}\n ]\n}}\n', encoding="utf-8")
@@ -122,7 +123,10 @@ def _read(path: Path) -> list[Artefact]:
     """The rows of a file."""
     try:
         found: Any = json.loads(path.read_bytes())
-        rows = [Artefact(it["class"], it["id"], it["version"], it["sum"]) for it in found["artefacts"]]
+        rows = [
+            Artefact(artefact["class"], artefact["id"], artefact["version"], artefact["sum"])
+            for artefact in found["artefacts"]
+        ]
         if not rows or not all(map(_is_row, rows)):
             raise ValueError("a row isn't class, id, version and sum")
     except OSError as fault:
@@ -135,16 +139,16 @@ def _read(path: Path) -> list[Artefact]:
     return rows
 
 
-def _is_row(it: Artefact) -> bool:
+def _is_row(artefact: Artefact) -> bool:
     """Whether a row has the form of an artefact."""
-    texts = all(isinstance(each, str) for each in it) and bool(it.kind and it.id)
-    return texts and VERSION.fullmatch(it.version) is not None and SUM.fullmatch(it.sum) is not None
+    texts = all(isinstance(each, str) for each in artefact) and bool(artefact.kind and artefact.id)
+    return texts and VERSION.fullmatch(artefact.version) is not None and SUM.fullmatch(artefact.sum) is not None
 
 
 def _read_versions(path: Path) -> list[str]:
     """The versions that a structure message shows; none if there is no such file."""
     try:
-        return [it.decode() for it in SHOWN.findall(path.read_bytes())]
+        return [element.decode() for element in SHOWN.findall(path.read_bytes())]
     except FileNotFoundError:
         return []
     except OSError as fault:
@@ -203,12 +207,14 @@ def translate_text(config: Config, text: str) -> Names:
 
 def titles_of(config: Config, code: str) -> Names:
     """The office's titles of an item in languages other than its tables'."""
-    return tuple((it.tag, it.titles[code]) for it in others_of(config) if code in it.titles)
+    return tuple((tongue.tag, tongue.titles[code]) for tongue in others_of(config) if code in tongue.titles)
 
 
 def title_of_index(config: Config) -> Names:
     """The name of the index in languages other than its tables', if the office has one."""
-    return tuple((it.tag, it.config.title) for it in others_of(config) if it.config.title != config.title)
+    return tuple(
+        (tongue.tag, tongue.config.title) for tongue in others_of(config) if tongue.config.title != config.title
+    )
 
 
 # ==== the artefacts of SDMX that an office maintains: its code lists, its concepts, its data structure and its dataflow
@@ -247,9 +253,9 @@ def shared_scheme(config: Config) -> Reference:
 
 
 def _reference(text: str) -> Reference:
-    found = REFERENCE.fullmatch(text)
-    assert found
-    return Reference(*found.groups())
+    match = REFERENCE.fullmatch(text)
+    assert match
+    return Reference(*match.groups())
 
 
 class Code(NamedTuple):

@@ -106,14 +106,15 @@ def statuses_of(known: Known, code: str, is_level: bool = True) -> Iterator[tupl
 
 def meanings_of(known: Known, speech: Speech) -> dict[str, str]:
     """The meaning of each status in the cube."""
-    found = {status: speech.t(text) for status, text in STATUSES.items()}
+    meanings = {status: speech.t(text) for status, text in STATUSES.items()}
     if known.shown.provisional:
         last = speech.t(REVISABLE)
         both = {
-            f"{it}{PROVISIONAL}": speech.t("{before}, {after}", before=says, after=last) for it, says in found.items()
+            f"{it}{PROVISIONAL}": speech.t("{before}, {after}", before=says, after=last)
+            for it, says in meanings.items()
         }
-        found.update({PROVISIONAL: last, **both})
-    return found
+        meanings.update({PROVISIONAL: last, **both})
+    return meanings
 
 
 def provisional_note(months: int, speech: Speech) -> str:
@@ -130,15 +131,15 @@ def provisional_note(months: int, speech: Speech) -> str:
 def notes_of(known: Known, code: str, speech: Speech = SPEAKS_ENGLISH) -> list[str]:
     """The periods in which an item is 100, and its breaks."""
     (_, first), *others = known.shown.hundreds(code)
-    found = [speech.t("Index: {period} = 100.", period=speech.period(first))]
+    notes = [speech.t("Index: {period} = 100.", period=speech.period(first))]
     for month, hundred in others:
         places = {"month": speech.month(month), "period": speech.period(hundred)}
-        found.append(speech.t("Break: from {month} on, {period} = 100; not linked to the earlier levels.", **places))
+        notes.append(speech.t("Break: from {month} on, {period} = 100; not linked to the earlier levels.", **places))
     changes = known.series.specials[code].changes if code in known.series.specials else []
     for month in changes:
         name = speech.month(month)
-        found.append(speech.t("Break: from {month} on, it contains different elementary aggregates.", month=name))
-    return found
+        notes.append(speech.t("Break: from {month} on, it contains different elementary aggregates.", month=name))
+    return notes
 
 
 RATES_SAY = {
@@ -156,16 +157,16 @@ RATES_SAY = {
 
 def general_notes(known: Known, config: Config, speech: Speech = SPEAKS_ENGLISH) -> list[str]:
     """The notes on the whole cube; the configuration contains the office's texts in the language."""
-    found = [speech.t(RATES_SAY[known.shown.rates])]
+    notes = [speech.t(RATES_SAY[known.shown.rates])]
     if config.reference:
         base = speech.month(known.series.base)
-        found.append(
+        notes.append(
             speech.t(
                 "The chained level is 100 in {month}, or in the December before the item entered the index.", month=base
             )
         )
-    found += filter(None, [provisional_note(config.provisional if known.shown.provisional else 0, speech)])
-    return found + [speech.t("Licence: {licence}", licence=config.licence) for _ in [0] if config.licence]
+    notes += filter(None, [provisional_note(config.provisional if known.shown.provisional else 0, speech)])
+    return notes + [speech.t("Licence: {licence}", licence=config.licence) for _ in [0] if config.licence]
 
 
 # ==== the cube as JSON-stat 2.0 (https://json-stat.org/full/): one dataset of items, measures and months
@@ -211,8 +212,8 @@ Items = Callable[[Tongue], dict[str, Any]]
 
 def _head(known: Known, config: Config, count: int, items: Items) -> str:
     """The text of a dataset of so many items up to its statuses."""
-    found = {**_about(known, config, count, items), "dimension": _dimensions(known, first_of(config), items)}
-    return json.dumps(found, ensure_ascii=False, indent=1)[:-2]
+    head = {**_about(known, config, count, items), "dimension": _dimensions(known, first_of(config), items)}
+    return json.dumps(head, ensure_ascii=False, indent=1)[:-2]
 
 
 class HeadsOfOne:
@@ -229,13 +230,13 @@ class HeadsOfOne:
         changes = series.specials[code].changes if code in series.specials else ()
         # (by what its notes say)
         key = (*self._known.shown.hundreds(code), *changes)
-        found = self._known_heads.get(key)
-        if found is None:
-            found = self._known_heads[key] = _head(self._known, self._config, 1, partial(self._mark_item, code))
-        found = found.replace(_text(CODE), _text(code))
+        head = self._known_heads.get(key)
+        if head is None:
+            head = self._known_heads[key] = _head(self._known, self._config, 1, partial(self._mark_item, code))
+        head = head.replace(_text(CODE), _text(code))
         for tongue in self._tongues:
-            found = found.replace(_text(_mark(tongue)), _text(tongue.title(series, code)))
-        return found
+            head = head.replace(_text(_mark(tongue)), _text(tongue.title(series, code)))
+        return head
 
     def _mark_item(self, code: str, tongue: Tongue) -> dict[str, Any]:
         """An item with marks in the places of its code and its title."""
@@ -259,7 +260,7 @@ def _text(text: str) -> str:
 def _about(known: Known, config: Config, count: int, items: Items) -> dict[str, Any]:
     """The description of the dataset of some items, without its dimensions."""
     series, measures, own = known.series, measures_of(config), first_of(config)
-    others = {it.tag: _in_language(known, it, items) for it in others_of(config)}
+    others = {tongue.tag: _in_language(known, tongue, items) for tongue in others_of(config)}
     return {
         "version": "2.0",
         "class": "dataset",
@@ -291,10 +292,14 @@ def _statuses_in(known: Known, tongue: Tongue) -> dict[str, Any]:
 def _in_language(known: Known, tongue: Tongue, items: Items) -> dict[str, Any]:
     """The texts of the dataset in another language."""
     dimensions = _dimensions(known, tongue, items)
-    for it in dimensions.values():
-        it["category"] = {name: it["category"][name] for name in ("label", "unit", "note") if name in it["category"]}
-        if "unit" in it["category"]:
-            it["category"]["unit"] = {id: {"label": unit["label"]} for id, unit in it["category"]["unit"].items()}
+    for dimension in dimensions.values():
+        dimension["category"] = {
+            name: dimension["category"][name] for name in ("label", "unit", "note") if name in dimension["category"]
+        }
+        if "unit" in dimension["category"]:
+            dimension["category"]["unit"] = {
+                id: {"label": unit["label"]} for id, unit in dimension["category"]["unit"].items()
+            }
     return {
         "label": tongue.config.title,
         "source": tongue.config.office,
@@ -316,8 +321,12 @@ def _items(known: Known, tongue: Tongue, codes: Sequence[str]) -> dict[str, Any]
 
 def _dimensions(known: Known, tongue: Tongue, items: Items) -> dict[str, Any]:
     measures, t = measures_of(tongue.config), tongue.speech.t
-    units = {it.id: {"label": t(it.unit), "decimals": it.decimals} for it in measures}
-    named = {"index": [it.id for it in measures], "label": {it.id: t(it.name) for it in measures}, "unit": units}
+    units = {measure.id: {"label": t(measure.unit), "decimals": measure.decimals} for measure in measures}
+    named = {
+        "index": [measure.id for measure in measures],
+        "label": {measure.id: t(measure.name) for measure in measures},
+        "unit": units,
+    }
     return {
         "item": {"label": t("Item, by COICOP 2018"), "category": items(tongue)},
         "measure": {"label": t("Figure"), "category": named},
@@ -328,8 +337,8 @@ def _dimensions(known: Known, tongue: Tongue, items: Items) -> dict[str, Any]:
 def _children(series: Series, codes: Sequence[str]) -> dict[str, list[str]]:
     """The items directly below each item, if both are in the dataset; special aggregates have none."""
     there, nodes = frozenset(codes), (code for code in codes if code not in series.specials)
-    found = ((code, [it for it in series.children(code) if it in there]) for code in nodes)
-    return {code: below for code, below in found if below}
+    children = ((code, [child for child in series.children(code) if child in there]) for code in nodes)
+    return {code: below for code, below in children if below}
 
 
 def _statuses(known: Known, config: Config, codes: Iterable[str]) -> Iterator[tuple[int, str]]:
@@ -339,8 +348,8 @@ def _statuses(known: Known, config: Config, codes: Iterable[str]) -> Iterator[tu
         for which, measure in enumerate(measures):
             begin = (at * len(measures) + which) * months
             figures = known.texts(measure.figure, code) if known.shown.provisional else ()
-            found = statuses_of(known, code, measure.is_level) if measure.is_level or figures else ()
-            yield from ((begin + month, status) for month, status in found if not figures or figures[month])
+            statuses = statuses_of(known, code, measure.is_level) if measure.is_level or figures else ()
+            yield from ((begin + month, status) for month, status in statuses if not figures or figures[month])
 
 
 # ==== the cube as a PX file of PC-Axis (its file format 2013), which PxWeb shows
@@ -412,7 +421,7 @@ def _keywords(known: Known, config: Config) -> Iterator[tuple[str, str]]:
     first, others = first_of(config), others_of(config)
     yield "LANGUAGE", quote(first.tag)
     if others:
-        yield "LANGUAGES", ",".join(quote(it.tag) for it in (first, *others))
+        yield "LANGUAGES", ",".join(quote(tongue.tag) for tongue in (first, *others))
     yield "CREATION-DATE", f'"{moment}"'
     following = [it.moment for it in coming(known.series, config.planned)]
     if following:
@@ -451,11 +460,11 @@ def _px_in_language(known: Known, tongue: Tongue, moment: str) -> Iterator[tuple
     yield "HEADING", f"{figure},{month}"
     yield "CONTVARIABLE", figure
     yield f"VALUES({item})", list_texts(_item(known, code, tongue) for code in series.all_titles)
-    yield f"VALUES({figure})", list_texts(t(it.name) for it in measures)
+    yield f"VALUES({figure})", list_texts(t(measure.name) for measure in measures)
     yield f"VALUES({month})", list_texts(map(tongue.speech.month, series.months))
     yield f"TIMEVAL({month})", "TLIST(M1),\n" + list_texts(each.replace("-", "") for each in series.months)
     yield f"CODES({item})", list_texts(series.all_titles)
-    yield f"CODES({figure})", list_texts(it.id for it in measures)
+    yield f"CODES({figure})", list_texts(measure.id for measure in measures)
     yield f"CODES({month})", list_texts(each.replace("-", "M") for each in series.months)
     yield f"ELIMINATION({item})", quote(_item(known, ALL_ITEMS, tongue))
     yield from _of_measures(known, measures, moment, tongue)
@@ -468,7 +477,7 @@ def _px_in_language(known: Known, tongue: Tongue, moment: str) -> Iterator[tuple
 
 def _of_measures(known: Known, measures: Sequence[Measure], moment: str, tongue: Tongue) -> Iterator[tuple[str, str]]:
     """Decimals, time, unit, contact and base period of each figure."""
-    t, named = tongue.speech.t, [(it, quote(tongue.speech.t(it.name))) for it in measures]
+    t, named = tongue.speech.t, [(measure, quote(tongue.speech.t(measure.name))) for measure in measures]
     for it, name in named:
         if it.shown:
             yield f"PRECISION({quote(t('Figure'))},{name})", str(it.shown)
@@ -483,10 +492,10 @@ def _of_measures(known: Known, measures: Sequence[Measure], moment: str, tongue:
             yield f"BASEPERIOD({name})", quote(_base(known, it))
 
 
-def _base(known: Known, it: Measure) -> str:
+def _base(known: Known, measure: Measure) -> str:
     """The period in which all items are 100 last; items with another period say so in a note."""
     month = known.series.months[-1]
-    is_chained = it.figure is figures.CHAINED
+    is_chained = measure.figure is figures.CHAINED
     return known.series.base_of(month, ALL_ITEMS) if is_chained else known.shown.find_reference(month, ALL_ITEMS)
 
 
@@ -501,9 +510,9 @@ def _notes(known: Known, measures: Iterable[Measure], tongue: Tongue) -> Iterato
         yield f"VALUENOTE({item},{quote(_item(known, code, tongue))})", quote(notes)
     for code in known.series.all_titles:
         for month in known.series.marks(code):
-            for it in measures:
-                if it.is_level:
-                    names = (_item(known, code, tongue), t(it.name), tongue.speech.month(month))
+            for measure in measures:
+                if measure.is_level:
+                    names = (_item(known, code, tongue), t(measure.name), tongue.speech.month(month))
                     yield f"CELLNOTE({','.join(map(quote, names))})", quote(t(STATUSES[BREAK]))
 
 

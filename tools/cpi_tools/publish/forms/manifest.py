@@ -75,19 +75,24 @@ class Manifest(NamedTuple):
 def manifest_text(series: Series, previous: Optional[str], changes: Iterable[Change] = ()) -> str:
     """A manifest of all tables and sets, and of changes; `previous` is the SHA-256 of the one before."""
     tables = [
-        {"month": it.month, "revision": it.revision, "published": iso(it.moment), "sha256": it.sha256}
-        for it in series.vintages
+        {
+            "month": vintage.month,
+            "revision": vintage.revision,
+            "published": iso(vintage.moment),
+            "sha256": vintage.sha256,
+        }
+        for vintage in series.vintages
     ]
-    found = {name: set_sum(it.rows, series.latest) for name, it in series.specials.items()}
-    sets = [{"id": name, **it._asdict()} for name, it in found.items() if it]
+    set_sums = {name: set_sum(it.rows, series.latest) for name, it in series.specials.items()}
+    sets = [{"id": name, **set_sum._asdict()} for name, set_sum in set_sums.items() if set_sum]
     sums = {name: core_sum(it.rows) for name, it in series.core.items()}
-    core = [{"id": name, **it._asdict()} for name, it in sums.items() if it]
+    core = [{"id": name, **set_sum._asdict()} for name, set_sum in sums.items() if set_sum]
     lists: list[tuple[str, list[dict[str, Any]]]] = [
         ("tables", tables),
         ("sets", sets),
         ("core", core),
         ("seasonal", [{"id": code, **_seasonal_sum(it)._asdict()} for code, it in series.seasonal.items()]),
-        ("changes", [it._asdict() for it in changes]),
+        ("changes", [change._asdict() for change in changes]),
     ]
     parts = [f' "previous": {json.dumps(previous)}', *(_write_list(name, rows) for name, rows in lists if rows)]
     return "{\n" + ",\n".join(parts) + "\n}\n"
@@ -115,10 +120,10 @@ def core_sum(rows: Mapping[str, CoreRow]) -> Optional[SetSum]:
     return SetSum(min(rows), max(rows), hashlib.sha256(text.encode()).hexdigest()) if rows else None
 
 
-def _seasonal_sum(it: SeasonalSeries) -> SetSum:
+def _seasonal_sum(seasonal_series: SeasonalSeries) -> SetSum:
     """The sum of the figures of an adjusted series by month."""
-    text = "".join(f"{month},{','.join(it.rows[month].texts)}\n" for month in sorted(it.rows))
-    return SetSum(min(it.rows), max(it.rows), hashlib.sha256(text.encode()).hexdigest())
+    text = "".join(f"{month},{','.join(seasonal_series.rows[month].texts)}\n" for month in sorted(seasonal_series.rows))
+    return SetSum(min(seasonal_series.rows), max(seasonal_series.rows), hashlib.sha256(text.encode()).hexdigest())
 
 
 def read_manifest(path: Path) -> Manifest:
@@ -161,14 +166,17 @@ def previous_of(before: Optional[Manifest], series: Series, changes: Iterable[Ch
     if before is None:
         return None
     now = manifest_of(manifest_text(series, None, changes).encode(), "")
-    then, found = ((it.tables, it.sets, it.core, it.seasonal, it.changes) for it in (before, now))
+    then, found = (
+        (manifest.tables, manifest.sets, manifest.core, manifest.seasonal, manifest.changes)
+        for manifest in (before, now)
+    )
     is_same = then == found
     return before.previous if is_same else before.sha256
 
 
 def changed_since(before: Manifest, series: Series) -> Iterator[str]:
     """A line for each table of an earlier manifest that is missing now, or that differs."""
-    now = {(it.month, it.revision): (iso(it.moment), it.sha256) for it in series.vintages}
+    now = {(vintage.month, vintage.revision): (iso(vintage.moment), vintage.sha256) for vintage in series.vintages}
     for (month, revision), then in before.tables.items():
         found = now.get((month, revision))
         if found is None:
@@ -271,10 +279,10 @@ def signature_in(folder: Path) -> Optional[Signature]:
         return None
     except (OSError, UnicodeDecodeError) as fault:
         raise CannotSign(because_of(fault) if isinstance(fault, OSError) else f"{folder}: {fault}") from fault
-    found = Signature(*texts)
-    if len(found.signers.split()) != 4:
+    signature = Signature(*texts)
+    if len(signature.signers.split()) != 4:
         raise CannotSign(f"{folder / SIGNERS} isn't a line with a name, a namespace and a key")
-    return found
+    return signature
 
 
 # ==== signing a manifest, and testing its signature, by `ssh-keygen -Y`
@@ -304,10 +312,10 @@ def keep_signature(folder: Path) -> Sign:
     """The signature that a pack has, if it holds for the manifest."""
 
     def verify_kept(manifest: bytes) -> Optional[Signature]:
-        found = signature_in(folder)
-        if found:
-            verify(found, manifest)
-        return found
+        signature = signature_in(folder)
+        if signature:
+            verify(signature, manifest)
+        return signature
 
     return verify_kept
 

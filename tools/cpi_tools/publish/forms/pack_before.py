@@ -58,16 +58,20 @@ class StoredReason(NamedTuple):
         return all(other.texts.get(tag) == text for tag, text in self.texts.items())
 
 
-def _stored_reason(it: GivenReason) -> StoredReason:
-    return StoredReason(iso(it.moment), _plain(it.text), {tag: _plain(text) for tag, text in it.texts.items()})
+def _stored_reason(given_reason: GivenReason) -> StoredReason:
+    return StoredReason(
+        iso(given_reason.moment),
+        _plain(given_reason.text),
+        {tag: _plain(text) for tag, text in given_reason.texts.items()},
+    )
 
 
 def read_told(pack: Path) -> dict[TableId, list[StoredReason]]:
     """The reasons that a pack has, by month and revision. Raises BadReasons if its file can't be read."""
     path = pack / "data" / REASONS
-    found: dict[TableId, list[StoredReason]] = {}
+    stored_reasons: dict[TableId, list[StoredReason]] = {}
     if not path.is_file():
-        return found
+        return stored_reasons
     try:
         with path.open(encoding="utf-8", newline="") as file:
             for row in csv.DictReader(file, strict=True):
@@ -77,10 +81,10 @@ def read_told(pack: Path) -> dict[TableId, list[StoredReason]]:
                     for name, text in row.items()
                     if name.startswith(TRANSLATED) and text
                 }
-                found.setdefault(of, []).append(StoredReason(row["added"], _plain(row["reason"]), texts))
+                stored_reasons.setdefault(of, []).append(StoredReason(row["added"], _plain(row["reason"]), texts))
     except (OSError, KeyError, ValueError, csv.Error, AttributeError) as fault:
         raise BadReasons(f"{path} is no file that cpi-tools publish wrote: {' '.join(str(fault).split())}") from fault
-    return found
+    return stored_reasons
 
 
 def added_reasons(pack: Path, tables: Mapping[TableId, object], reasons: Reasons) -> set[TableId]:
@@ -92,10 +96,10 @@ def added_reasons(pack: Path, tables: Mapping[TableId, object], reasons: Reasons
         then, given = earlier.get(of, []), reasons.get(of, [])
         now = [*map(_stored_reason, given)]
         month, revision = of
-        for it, other in zip(then, [*now, *[None] * len(then)]):
-            if not it.still_in(other):
+        for stored_reason, other in zip(then, [*now, *[None] * len(then)]):
+            if not stored_reason.still_in(other):
                 raise BadReasons(
-                    f"the reason of {month}, revision {revision}, was published as {_find_gone(it, other)[:60]!a}, and is"
+                    f"the reason of {month}, revision {revision}, was published as {_find_gone(stored_reason, other)[:60]!a}, and is"
                     f" another one now: put it back, and add a row that has the time in the column {ADDED}"
                 )
         if any(not it.is_later for it in given[len(then) :]):
@@ -224,11 +228,11 @@ class KeptLines:
     def by_code(self, name: str, titles: Iterable[str]) -> dict[str, str]:
         """By the code with which they begin, the lines of such a file, whose titles are these; none if one of them has an end
         of line in it."""
-        found = dict[str, list[str]]()
+        codes = dict[str, list[str]]()
         text = None if any("\n" in title for title in titles) else self.read(name)
         for line in (text or "").split("\n")[1:-1]:
-            found.setdefault(line.partition(",")[0], []).append(f"{line}\n")
-        return {code: "".join(lines) for code, lines in found.items()}
+            codes.setdefault(line.partition(",")[0], []).append(f"{line}\n")
+        return {code: "".join(lines) for code, lines in codes.items()}
 
 
 NOTHING_KEPT = KeptLines(Before())

@@ -136,9 +136,9 @@ def _new_change(earlier: Earlier, made: Made, folder: Path) -> Optional[Change]:
     """The changes of the pack from the one before; None if there are none, and no table is new."""
     before, manifest = made.now, earlier.manifest
     assert before and manifest and earlier.pack
-    new = [it for it in made.series.vintages if (it.month, it.revision) not in manifest.tables]
+    new = [vintage for vintage in made.series.vintages if (vintage.month, vintage.revision) not in manifest.tables]
     name = _name(new or made.series.vintages, {row.name for row in earlier.rows})
-    releases = tuple(name_of(it.month, it.revision) for it in new)
+    releases = tuple(name_of(vintage.month, vintage.revision) for vintage in new)
     with tempfile.TemporaryDirectory(prefix=".", dir=folder / "data") as room:
         if not made.config.has("sdmx-csv"):
             return None
@@ -160,7 +160,7 @@ def _new_change(earlier: Earlier, made: Made, folder: Path) -> Optional[Change]:
 def _name(tables: Iterable[Table], used: Collection[str]) -> str:
     """The name of a pack's changes: the name of the newest release, and a number if that release has changes
     already."""
-    newest = max(tables, key=lambda it: (it.moment, it.month, it.revision))
+    newest = max(tables, key=lambda table: (table.moment, table.month, table.revision))
     name = name_of(newest.month, newest.revision)
     names = (name, *(f"{name}-{number}" for number in range(2, len(used) + 2)))
     return next(each for each in names if each not in used)
@@ -191,9 +191,11 @@ class _Pair:
         whole = before.whole(f"data/{OBSERVATIONS}")
         # (a year that is in the files of `data` now may have been in an archive)
         then = sorted({name for name in before.names if ARCHIVE.fullmatch(name)} - same)
-        found = [path for name in then if (path := before.whole(name))]
-        is_whole = whole and len(found) == len(then)
-        self._old = [whole, *(_member(it, room / f"old-{it.stem}.csv") for it in found)] if whole and is_whole else []
+        paths = [path for name in then if (path := before.whole(name))]
+        is_whole = whole and len(paths) == len(then)
+        self._old = (
+            [whole, *(_member(path, room / f"old-{path.stem}.csv") for path in paths)] if whole and is_whole else []
+        )
         self._same = {_year(name) for name in same}
 
     @property
@@ -252,10 +254,10 @@ def _year(archive: str) -> str:
 
 def _member(archive: Path, to: Path) -> Path:
     """The observations of the archive of a year as a file; without any, an archive had no SDMX-CSV then."""
-    with zipfile.ZipFile(archive) as found, to.open("wb") as file:
+    with zipfile.ZipFile(archive) as zip_file, to.open("wb") as file:
         name = f"{archive.stem}/{OBSERVATIONS}"
-        if name in found.namelist():
-            with found.open(name) as member:
+        if name in zip_file.namelist():
+            with zip_file.open(name) as member:
                 shutil.copyfileobj(member, file, 1 << 20)
     return to
 
@@ -284,11 +286,11 @@ class _Index:
 
     def text(self, key: bytes) -> bytes:
         """The lines of a series in all files, each from its period on; nothing if there are none."""
-        found = []
+        text = []
         for number, at, size, start in self.keys.get(key, ()):
             self._files[number].seek(at)
-            found.append(self._files[number].read(size).replace(start, b""))
-        return b"".join(found)
+            text.append(self._files[number].read(size).replace(start, b""))
+        return b"".join(text)
 
     def close(self) -> None:
         """Closes the files."""
@@ -347,5 +349,5 @@ class _Attributes(dict[str, tuple[str, str]]):
 
     def __missing__(self, rest: str) -> tuple[str, str]:
         named, count = [*zip(self._names, rest.split(","))], len(SERIES_ATTRIBUTES)
-        found = self[rest] = attributes_of(dict(named[:count])), attributes_of(dict(named[count:]))
-        return found
+        attributes = self[rest] = attributes_of(dict(named[:count])), attributes_of(dict(named[count:]))
+        return attributes

@@ -82,10 +82,10 @@ def _read_rows(path: Path, head: Sequence[str]) -> list[Cells]:
         return []
     try:
         with path.open(encoding="utf-8", newline="") as file:
-            found = csv.DictReader(file, strict=True)
-            if tuple(found.fieldnames or ()) != tuple(head):
-                raise ValueError(f"its columns are {', '.join(found.fieldnames or ())}")
-            rows: list[Cells] = [*found]
+            reader = csv.DictReader(file, strict=True)
+            if tuple(reader.fieldnames or ()) != tuple(head):
+                raise ValueError(f"its columns are {', '.join(reader.fieldnames or ())}")
+            rows: list[Cells] = [*reader]
         for row in rows:
             int(row["window"])
     except (OSError, ValueError, TypeError, csv.Error) as fault:
@@ -211,12 +211,12 @@ def _read(path: Path) -> dict[str, SetRow]:
     try:
         with path.open(encoding="utf-8", newline="") as file:
             rows = [*csv.DictReader(file, strict=True)]
-        found = {row["month"]: SetRow(row, tuple(row[name] for name in FIGURES)) for row in rows}
+        set_rows = {row["month"]: SetRow(row, tuple(row[name] for name in FIGURES)) for row in rows}
     except (OSError, KeyError, ValueError, csv.Error) as fault:
         raise NoSetFile(f"{path} can't be read: {' '.join(str(fault).split())}") from fault
-    if not all(MONTH.fullmatch(month) for month in found):
+    if not all(MONTH.fullmatch(month) for month in set_rows):
         raise NoSetFile(f"{path} isn't the file of a special aggregate")
-    return found
+    return set_rows
 
 
 class KeptSets(NamedTuple):
@@ -242,15 +242,15 @@ def kept_sets(pack: Path) -> KeptSets:
 
 def _vintages(path: Path) -> dict[str, dict[str, list[dict[str, str]]]]:
     """The lines of sets in a file of superseded figures, by id and month."""
-    found: dict[str, dict[str, list[dict[str, str]]]] = {}
+    vintages: dict[str, dict[str, list[dict[str, str]]]] = {}
     try:
         with path.open(encoding="utf-8", newline="") as file:
             for row in csv.DictReader(file, strict=True):
                 if ID.fullmatch(row["code"]):
-                    found.setdefault(row["code"], {}).setdefault(row["month"], []).append(row)
+                    vintages.setdefault(row["code"], {}).setdefault(row["month"], []).append(row)
     except (OSError, KeyError, ValueError, csv.Error) as fault:
         raise NoSetFile(f"{path} can't be read: {' '.join(str(fault).split())}") from fault
-    return found
+    return vintages
 
 
 class Changed(NamedTuple):
@@ -275,24 +275,24 @@ def changed_sets(before: Manifest, series: Series, kept: KeptSets) -> list[Chang
     manifest."""
     then = latest_of(before, series)
     names = dict.fromkeys([*before.sets, *kept.rows])
-    found = (_find_change(name, before.sets.get(name), kept.rows.get(name, {}), series, then) for name in names)
-    return [it for it in found if it]
+    changes = (_find_change(name, before.sets.get(name), kept.rows.get(name, {}), series, then) for name in names)
+    return [change for change in changes if change]
 
 
-def refuse_changed(found: list[Changed], given: Reasons, before: KeptSets) -> None:
+def refuse_changed(changes: list[Changed], given: Reasons, before: KeptSets) -> None:
     """Raises OtherSets if figures of a set changed to which the office has given no further definition since."""
-    for it in found:
-        definition = before.definitions.get(it.id, 1)
-        if definition_of(it.id, given) <= definition:
+    for change in changes:
+        definition = before.definitions.get(change.id, 1)
+        if definition_of(change.id, given) <= definition:
             raise OtherSets(
-                f"{it.text}: a row of `aggregates` with a January in its column `{FROM}` dates another definition, or ends"
-                f" the set; one that holds for all months needs its reason in `revisions` ({it.id},{definition + 1},..)"
+                f"{change.text}: a row of `aggregates` with a January in its column `{FROM}` dates another definition, or ends"
+                f" the set; one that holds for all months needs its reason in `revisions` ({change.id},{definition + 1},..)"
             )
 
 
 def latest_of(before: Manifest, series: Series) -> Mapping[str, Table]:
     """The tables of an earlier pack, the latest revision of each month."""
-    return {it.month: it for it in series.vintages if (it.month, it.revision) in before.tables}
+    return {vintage.month: vintage for vintage in series.vintages if (vintage.month, vintage.revision) in before.tables}
 
 
 def _find_change(
@@ -311,12 +311,12 @@ def _find_change(
 
 def rows_by(series: Series, name: str, tables: Mapping[str, Table]) -> dict[str, Row]:
     """The rows of a set by other tables than the latest; by these, those that are known."""
-    it = series.specials.get(name)
-    if it is None:
+    rows = series.specials.get(name)
+    if rows is None:
         return {}
     if all(series.latest[month] is table for month, table in tables.items()):
-        return {month: row for month, row in it.rows.items() if month in tables}
-    computed = Computed(name, it.title, it.members, tables)
+        return {month: row for month, row in rows.rows.items() if month in tables}
+    computed = Computed(name, rows.title, rows.members, tables)
     return {month: row for month in sorted(tables) if (row := computed.row(month))}
 
 
@@ -342,16 +342,16 @@ VintageRow = Sequence[object]
 def set_lines(series: Series, given: Reasons, kept: KeptSets) -> dict[str, list[str]]:
     """By month the lines of all sets, in the order of ids and of publications; `given` are the reasons of the office, `kept`
     is what the pack before has."""
-    computed, found = vintages_of(series), dict[str, list[str]]()
+    computed, lines = vintages_of(series), dict[str, list[str]]()
     for name in sorted(series.specials):
-        moments = [it.moment for of, reasons in given.items() if of[0] == name for it in reasons]
+        moments = [reason.moment for of, reasons in given.items() if of[0] == name for reason in reasons]
         if definition_of(name, given) > 1:
             rows = _of_redefined(series, name, max(moments), kept)
         else:
             rows = ((it.table.month, _cells(series, it)) for found in computed[name].values() for it in found)
         for month, cells in rows:
-            found.setdefault(month, []).append(line_with(cells))
-    return found
+            lines.setdefault(month, []).append(line_with(cells))
+    return lines
 
 
 def line_with(cells: VintageRow) -> str:
@@ -361,10 +361,10 @@ def line_with(cells: VintageRow) -> str:
     return text.getvalue()
 
 
-def _cells(series: Series, it: Vintage) -> VintageRow:
+def _cells(series: Series, vintage: Vintage) -> VintageRow:
     """A figure as a publication had it."""
-    cells = figure_row(series, it.table, it.row)
-    return (*cells[:2], iso(it.moment), *cells[3:])
+    cells = figure_row(series, vintage.table, vintage.row)
+    return (*cells[:2], iso(vintage.moment), *cells[3:])
 
 
 def _of_redefined(series: Series, name: str, moment: int, kept: KeptSets) -> Iterator[tuple[str, VintageRow]]:
@@ -373,7 +373,7 @@ def _of_redefined(series: Series, name: str, moment: int, kept: KeptSets) -> Ite
     earlier, rows = kept.vintages.get(name, {}), kept.rows.get(name, {})
     for month in sorted({*earlier, *rows}):
         lines, row, table = earlier.get(month, []), rows.get(month), series.latest[month]
-        yield from ((month, [it[name] for name in HEAD]) for it in lines)
+        yield from ((month, [line[name] for name in HEAD]) for line in lines)
         now = series.specials[name].rows.get(month)
         if row and (now is None or now.texts != row.figures):
             if not lines or tuple(lines[-1][name] for name in FIGURES) != row.figures:

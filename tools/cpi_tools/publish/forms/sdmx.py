@@ -188,10 +188,10 @@ class Months:
         self._known = known
         tables = [known.series.latest[month] for month in known.series.months]
         provisional = known.shown.provisional
-        usual = ["P" if it.month in provisional else "A" for it in tables]
+        usual = ["P" if table.month in provisional else "A" for table in tables]
         # (by whether it is after a break, then by month: the status, the revision and its moment)
         self._tables = [
-            [(config.id(id), str(it.revision), iso(it.moment)) for id, it in zip(ids, tables)]
+            [(config.id(id), str(table.revision), iso(table.moment)) for id, table in zip(ids, tables)]
             for ids in (usual, ["B"] * len(tables))
         ]
         self._based = functools.lru_cache(maxsize=None)(self._attributes)
@@ -201,21 +201,24 @@ class Months:
         """The attributes of figures with a base period, or without one: by whether they come after a break, then by month,
         then by whether a price was imputed."""
         return [
-            [{it: (base, status, it, revision, moment) for it in ("", "0", "1")} for status, revision, moment in found]
-            for found in self._tables
+            [
+                {text: (base, status, text, revision, moment) for text in ("", "0", "1")}
+                for status, revision, moment in table
+            ]
+            for table in self._tables
         ]
 
     def attributes(self, month: str, is_break: bool) -> Attributes:
         """The attributes of a figure that has no base period, and no statement about imputed prices."""
         return self._based("")[is_break][self._known.series.months.index(month)][""]
 
-    def observations(self, it: Measure, code: str) -> list[Observation]:
+    def observations(self, measure: Measure, code: str) -> list[Observation]:
         """The figures of a node."""
         known, months = self._known, self._known.series.months
-        assert it.figure
-        said = self._of_levels(code, _bases(it, known, code)) if it.unit == "IX" else self._usual(code)
-        found = zip(months, known.texts(it.figure, code), said)
-        return [observation for observation in found if observation[1]]
+        assert measure.figure
+        said = self._of_levels(code, _bases(measure, known, code)) if measure.unit == "IX" else self._usual(code)
+        observations = zip(months, known.texts(measure.figure, code), said)
+        return [observation for observation in observations if observation[1]]
 
     def _usual(self, code: str) -> list[Attributes]:
         """The attributes of a node's figures that are no levels, which are those of each measure."""
@@ -230,11 +233,11 @@ class Months:
         period, and the period."""
         months, breaks = self._known.series.months, self._known.series.marks(code)
         starts, periods = [month for month, _ in bases], [period for _, period in bases]
-        found = []
+        levels = []
         for at, (month, imputed) in enumerate(zip(months, self._known.texts(figures.IMPUTED, code))):
             base = periods[max(0, bisect.bisect_right(starts, month) - 1)]
-            found.append(self._based(base)[month in breaks][at][imputed])
-        return found
+            levels.append(self._based(base)[month in breaks][at][imputed])
+        return levels
 
 
 Wanted = Callable[[tuple[str, ...], str], bool]
@@ -248,15 +251,15 @@ def _all(_: tuple[str, ...], __: str) -> bool:
 def observe(known: Known, config: Config, is_wanted: Wanted = _all) -> Iterator[Observed]:
     """All wanted series that have an observation, in the order of the table above and of codes."""
     months = Months(known, config)
-    for it in MEASURES:
-        if it.figure is figures.CHAINED and not config.reference:
+    for measure in MEASURES:
+        if measure.figure is figures.CHAINED and not config.reference:
             continue
-        ids = [config.id(each) for each in (it.measure, it.unit, it.transformation)]
+        ids = [config.id(each) for each in (measure.measure, measure.unit, measure.transformation)]
         for code in known.codes:
             key = (config.id("M"), config.area, *ids[:2], item_id(code), ids[2])
-            found = months.observations(it, code) if is_wanted(key, code) else []
-            if found:
-                yield Observed(key, (str(it.decimals),), found, code)
+            observations = months.observations(measure, code) if is_wanted(key, code) else []
+            if observations:
+                yield Observed(key, (str(measure.decimals),), observations, code)
     others = itertools.chain(_annual(known, config), _core(known, config, months))
     yield from (each for each in others if is_wanted(each.key, each.code))
 
@@ -268,10 +271,10 @@ def _core(known: Known, config: Config, months: Months) -> Iterator[Observed]:
         measure, unit = config.id("CPIR" if it.is_share else "CPI"), config.id("PC")
         for transformation, texts in zip(("G1", "GY"), zip(*(row.texts for row in it.rows.values()))):
             said = (months.attributes(month, month in it.changes) for month in it.rows)
-            found = [observation for observation in zip(it.rows, texts, said) if observation[1]]
+            observations = [observation for observation in zip(it.rows, texts, said) if observation[1]]
             key = (config.id("M"), config.area, measure, unit, name, config.id(transformation))
-            if found:
-                yield Observed(key, ("1",), found, name)
+            if observations:
+                yield Observed(key, ("1",), observations, name)
 
 
 class Year(NamedTuple):
@@ -285,32 +288,34 @@ class Year(NamedTuple):
 
 def _years(series: Series) -> list[Year]:
     """The full years. A figure of a year is out when the tables of all its months are."""
-    found = []
+    years = []
     for year in full_years(series):
         months = [month for month in series.months if month.startswith(f"{year:04}-")]
-        found.append(Year(year, max(series.latest[month].moment for month in months), frozenset(months)))
-    return found
+        years.append(Year(year, max(series.latest[month].moment for month in months), frozenset(months)))
+    return years
 
 
 def _annual(known: Known, config: Config) -> Iterator[Observed]:
     """The annual averages of all nodes, and their changes on the year before."""
     series, shown, years = known.series, known.shown, _years(known.series)
     rates = Measure("CPI", "G1", "PC", 1, None)
-    for it in (Measure("CPI", "N", "IX", 6, None), rates):
-        ids = [config.id(each) for each in (it.measure, it.unit, it.transformation)]
+    for measure in (Measure("CPI", "N", "IX", 6, None), rates):
+        ids = [config.id(each) for each in (measure.measure, measure.unit, measure.transformation)]
         for code in known.codes:
-            found, marks = list[Observation](), series.marks(code)
+            observations, marks = list[Observation](), series.marks(code)
             for each in years:
-                value = average_change(series, code, each.year) if it is rates else shown.average(code, each.year)
+                value = average_change(series, code, each.year) if measure is rates else shown.average(code, each.year)
                 if value is not None:
                     status = _status_of_year(each, marks, shown.provisional)
-                    value_text, base = write_ratio(value, it.decimals), "" if it is rates else _base_of(
+                    value_text, base = write_ratio(value, measure.decimals), "" if measure is rates else _base_of(
                         known, each, code
                     )
-                    found.append((f"{each.year:04}", value_text, (base, config.id(status), "", "", iso(each.moment))))
-            if found:
+                    observations.append(
+                        (f"{each.year:04}", value_text, (base, config.id(status), "", "", iso(each.moment)))
+                    )
+            if observations:
                 key = (config.id("A"), config.area, *ids[:2], item_id(code), ids[2])
-                yield Observed(key, (str(it.decimals),), found, code)
+                yield Observed(key, (str(measure.decimals),), observations, code)
 
 
 def _status_of_year(year: Year, marks: Sequence[str], provisional: frozenset[str]) -> str:
@@ -325,9 +330,9 @@ def _base_of(known: Known, year: Year, code: str) -> str:
     return known.shown.find_reference(f"{year.year:04}-01", code)
 
 
-def _bases(it: Measure, known: Known, code: str) -> list[tuple[str, str]]:
+def _bases(measure: Measure, known: Known, code: str) -> list[tuple[str, str]]:
     """The periods in which levels are 100, each with its first month: of a node that left and is back there are two."""
-    if it.figure is figures.CHAINED:
+    if measure.figure is figures.CHAINED:
         return [(month, link_of(month)) for month in known.series.starts(code)]
     return known.shown.hundreds(code)
 

@@ -304,9 +304,9 @@ def structure_of(series: Series, config: Config, versions: Versions) -> Structur
     lists["COICOP18"] = items(series, config, CONCEPTS["COICOP18"])
     references = [Reference(config.agency, config.id(name), "") for name in (SCHEME, DEFINITION, FLOW)]
     own = Structure(lists, *references)
-    for name, it in lists.items():
+    for name, code_list in lists.items():
         version = versions.give("Codelist", f"CL_{config.id(name)}", _code_list(own, config, name))
-        lists[name] = it._replace(version=version)
+        lists[name] = code_list._replace(version=version)
     own = own._replace(concepts=_give_version(versions, "ConceptScheme", own.concepts, _concepts(own, config)))
     own = own._replace(definition=_give_version(versions, "DataStructure", own.definition, _definition(own, config)))
     return own._replace(flow=_give_version(versions, "Dataflow", own.flow, _dataflow(own, config)))

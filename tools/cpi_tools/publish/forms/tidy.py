@@ -72,7 +72,7 @@ class Lines:
         """The lines of a node in some tables, with further cells at the end of each."""
         series, marks, depth = self._series, frozenset(self._series.marks(code)), depth_of(code)
         is_whole = len(series.starts(code)) == 1
-        base, found = series.base_of(series.every[-1], code), []
+        base, node = series.base_of(series.every[-1], code), []
         for table, end in zip(tables, ends):
             place = table.rows.place(code)
             if place is not None:
@@ -80,8 +80,8 @@ class Lines:
                 head = self._tables.get(table[:2]) or self._head(table)
                 its_base = base if is_whole else series.base_of(table.month, code)
                 is_break = "1" if table.month in marks else "0"
-                found.append(f"{head}{code},{depth},{self.figures(table.rows, place)},{its_base},{is_break}{more}\n")
-        return "".join(found)
+                node.append(f"{head}{code},{depth},{self.figures(table.rows, place)},{its_base},{is_break}{more}\n")
+        return "".join(node)
 
     def of_table(self, table: Table) -> str:
         """The lines of all nodes of a table."""
@@ -111,14 +111,14 @@ class Lines:
 
     def _head(self, table: Table) -> str:
         """The cells that are the same in all lines of a table."""
-        found = self._tables[table[:2]] = f"{table.month},{table.revision},{iso(table.moment)},"
-        return found
+        text = self._tables[table[:2]] = f"{table.month},{table.revision},{iso(table.moment)},"
+        return text
 
     def _change(self, value: int) -> str:
-        found = self._tenths.get(value)
-        if found is None:
-            found = self._tenths[value] = tenths(value)
-        return found
+        tenth = self._tenths.get(value)
+        if tenth is None:
+            tenth = self._tenths[value] = tenths(value)
+        return tenth
 
 
 def write_lines(path: Path, head: Sequence[str], lines: Iterable[str], kept: Optional[str] = None) -> None:
@@ -156,7 +156,10 @@ def write_whole(
 ) -> None:
     """The CSV files that are of all years: each publication, what revisions changed, and averages; `sets` are by month the
     lines of special aggregates that were changed."""
-    releases = ((it.month, it.revision, iso(it.moment), len(it.rows), it.sha256) for it in series.vintages)
+    releases = (
+        (vintage.month, vintage.revision, iso(vintage.moment), len(vintage.rows), vintage.sha256)
+        for vintage in series.vintages
+    )
     write_rows(folder / "releases.csv", ("month", "revision", "published", "rows", "sha256"), releases)
     write_lines(folder / "vintages.csv", HEAD, _vintage_lines(series, sets))
     write_lines(folder / "averages.csv", AVERAGE_HEAD, _average_lines(shown, kept))
@@ -174,7 +177,7 @@ def _vintage_lines(series: Series, sets: Mapping[str, Sequence[str]]) -> Iterato
     """The lines of the nodes that a further revision changed: as they were at first, and as each revision that changed
     them has them, with those of sets after them. All others are in `cpi.csv` and `aggregates.csv`."""
     lines = Lines(series)
-    for month, found in groupby(series.vintages, key=lambda it: it.month):
+    for month, found in groupby(series.vintages, key=lambda vintage: vintage.month):
         tables = [*found]
         for code in sorted(_find_revised(tables)):
             earlier = ""
@@ -199,9 +202,15 @@ def _find_revised(tables: Sequence[Table]) -> set[str]:
 CONTRIBUTION_HEAD = ("month", "code", "of", "contribution_month", "contribution_year")
 
 
-def contribution_row(month: str, it: Contribution) -> Sequence[object]:
+def contribution_row(month: str, contribution: Contribution) -> Sequence[object]:
     """Percentage points with six decimals."""
-    return month, it.code, it.of, write_ratio(it.to_month, 6), write_ratio(it.to_year, 6)
+    return (
+        month,
+        contribution.code,
+        contribution.of,
+        write_ratio(contribution.to_month, 6),
+        write_ratio(contribution.to_year, 6),
+    )
 
 
 def _contribution_lines(known: Known, months: Sequence[str]) -> Iterator[str]:
@@ -280,7 +289,9 @@ def write_specials(series: Series, contributions: Contributions, folder: Path) -
         write_rows(folder / FIGURES, HEAD, _figures(series))
         write_rows(folder / MEMBERS, ("id", "title", "year", "code", "weight"), _members(series))
         given = (
-            contribution_row(month, it) for month in series.months for it in _list_contributions(contributions, month)
+            contribution_row(month, contribution)
+            for month in series.months
+            for contribution in _list_contributions(contributions, month)
         )
         write_rows(folder / GIVEN, CONTRIBUTION_HEAD, given)
 
@@ -307,7 +318,7 @@ def _list_contributions(contributions: Contributions, month: str) -> Iterator[Co
     """The contributions of each set to all items, and of each elementary aggregate to the sets that it is or was in."""
     for name, it in contributions.series.specials.items():
         years = [it.members.get(year, ()) for year in (month[:4], f"{int(month[:4]) - 1:04}")]
-        members = sorted({code for found in years for code in found})
+        members = sorted({code for year in years for code in year})
         pairs = [(name, ALL_ITEMS), *((code, name) for code in members)]
         found = (contributions.of(month, code, to) for code, to in pairs)
         yield from (each for each in found if each.to_month is not None or each.to_year is not None)

@@ -192,8 +192,8 @@ class SdmxSlices:
 
     def end(self) -> None:
         """Writes the ends of the slices."""
-        for it in self._forms.values():
-            it.end()
+        for form in self._forms.values():
+            form.end()
 
 
 @contextlib.contextmanager
@@ -203,9 +203,9 @@ def sdmx_slices(known: Known, structure: Structure, config: Config, files: NewFi
         yield None
         return
     with contextlib.ExitStack() as stack:
-        found = SdmxSlices(known, structure, config, files, stack)
-        yield found
-        found.end()
+        sdmx_slices = SdmxSlices(known, structure, config, files, stack)
+        yield sdmx_slices
+        sdmx_slices.end()
 
 
 def _write_structure_paths(structure: Structure, config: Config, data: Path) -> None:
@@ -379,7 +379,9 @@ class Archives:
         """The sum of all that the files of some months are made of: the tool, the configuration, the tables up to the last
         one, and the levels of the reference period, which may be a later one."""
         tables = [
-            (it.month, it.revision, it.moment, it.sha256) for it in self._series.vintages if it.month <= span.last
+            (vintage.month, vintage.revision, vintage.moment, vintage.sha256)
+            for vintage in self._series.vintages
+            if vintage.month <= span.last
         ]
         hidden = sorted(it for it in unexplained if it[0] <= span.last)
         own = self._config
@@ -436,8 +438,8 @@ def tool() -> str:
     """The sum of the tool's own sources and catalogues, and of what packs and names months: another one could write other
     bytes."""
     top = Path(__file__).resolve().parents[2]
-    found = hashlib.sha256(f"{platform.python_version()} {zlib.ZLIB_RUNTIME_VERSION} {names_by()}".encode())
+    digest = hashlib.sha256(f"{platform.python_version()} {zlib.ZLIB_RUNTIME_VERSION} {names_by()}".encode())
     sources = {path.relative_to(top).as_posix(): path for path in top.rglob("*.py")}
     for name, path in sorted({**sources, **{path.name: path for path in PO.glob("*.po")}}.items()):
-        found.update(f"{name} {hashlib.sha256(path.read_bytes()).hexdigest()}\n".encode())
-    return found.hexdigest()
+        digest.update(f"{name} {hashlib.sha256(path.read_bytes()).hexdigest()}\n".encode())
+    return digest.hexdigest()

@@ -51,9 +51,9 @@ def write_cards(
     cards: Cards, config: Config, releases: Sequence[Release], pack: Path, version: Version = ALONE
 ) -> None:
     """Writes the card of each release, in the language of a version, into the folder of a pack. Raises Fault."""
-    for it in releases if cards.are_written else ():
-        name = version.folder + it.card
-        png = cards.card(name, card_svg(config, it))
+    for release in releases if cards.are_written else ():
+        name = version.folder + release.card
+        png = cards.card(name, card_svg(config, release))
         if png:
             (pack / name).write_bytes(png)
 
@@ -184,9 +184,9 @@ def drawing(chart: Chart, title: str, source: str) -> str:
         Words(chart.name, 12.5, f'fill="{INK}"', 1),
     ]
     head += _lines(chart.whole_unit, 11.5)
-    top = EDGE + sum(it.size * 1.3 + it.above for it in head)
+    top = EDGE + sum(line.size * 1.3 + line.above for line in head)
     foot = [*_key(chart), *_lines(source, 10.5, above=6)]
-    height = top + chart.height + sum(it.size * 1.3 + it.above for it in foot) + EDGE
+    height = top + chart.height + sum(line.size * 1.3 + line.above for line in foot) + EDGE
     inner = str(chart.picture).partition(">")[2].rpartition("</svg>")[0]
     named, plot = inner.partition("</desc>")[::2]
     wide = WIDTH + 2 * EDGE
@@ -224,21 +224,21 @@ def _key(chart: Chart) -> list[Words]:
     way = chart.speech.language.dir
     places = {"full": apart(chart.full, way), "broken": apart(chart.broken, way)}
     forms = [(form.format(**places), look) for form, look in _key_forms(chart.speech.t(KEY))]
-    return [it for text, look in (*forms, (chart.marks, "")) for it in _lines(text, 11.5, look)]
+    return [line for text, look in (*forms, (chart.marks, "")) for line in _lines(text, 11.5, look)]
 
 
 @functools.lru_cache(maxsize=64)
 def _key_forms(form: str) -> list[tuple[str, str]]:
     """The text about each line in the page's key, and the line's own colour."""
-    parts = [it for it in LINE.split(form) if it]
-    return [(TAG.sub("", it).strip(" ."), f'fill="{ACCENT if "{full}" in it else DOWN}"') for it in parts]
+    parts = [word for word in LINE.split(form) if word]
+    return [(TAG.sub("", part).strip(" ."), f'fill="{ACCENT if "{full}" in part else DOWN}"') for part in parts]
 
 
 @functools.lru_cache(maxsize=64)
 def _lines(text: str, size: float, looks: str = "", above: float = 0.0) -> Sequence[Words]:
     """A text in lines that fit, the room above the first one only. (The title and the source are those of several files.)"""
-    found = [*break_lines(text, WIDTH / (LETTER * size))]
-    return [Words(line, size, looks, 0 if at else above) for at, line in enumerate(found)]
+    lines = [*break_lines(text, WIDTH / (LETTER * size))]
+    return [Words(line, size, looks, 0 if at else above) for at, line in enumerate(lines)]
 
 
 def break_lines(text: str, most: float) -> Iterator[str]:
@@ -271,10 +271,10 @@ def _width(letter: str) -> float:
 
 def _write_lines(words: Iterable[Words], top: float) -> Iterator[str]:
     """The lines of text below one another, each with its own foot."""
-    for it in words:
-        top += it.above + it.size * 1.3
-        looks = f" {it.looks}" if it.looks else ""
-        yield f'<text x="{EDGE}" y="{top - it.size * 0.3:.1f}" font-size="{it.size}"{looks}>{escape(it.text)}</text>\n'
+    for word in words:
+        top += word.above + word.size * 1.3
+        looks = f" {word.looks}" if word.looks else ""
+        yield f'<text x="{EDGE}" y="{top - word.size * 0.3:.1f}" font-size="{word.size}"{looks}>{escape(word.text)}</text>\n'
 
 
 # ==== contributions to a change as a picture: the bars of a table of contributions, with their labels and figures in it
@@ -309,9 +309,9 @@ class Change:
     def _draw(self, kind: str, name: str, title: str, rows: Sequence[Given]) -> list[Chart]:
         if not rows:
             return []
-        speech, found = self._speech, [_label(it, self._speech) for it in rows]
-        names = [apart(it.title, speech.language.dir) for it in rows]
-        says = speech.row([f"{name} {pp(it.value, speech=speech)}" for name, it in zip(names, rows)])
+        speech, found = self._speech, [_label(row, self._speech) for row in rows]
+        names = [apart(row.title, speech.language.dir) for row in rows]
+        says = speech.row([f"{name} {pp(row.value, speech=speech)}" for name, row in zip(names, rows)])
         drawn = charts.bars(Picture(kind, title, f"{says}.", speech), found)
         return [Chart(kind, name, self._unit(), drawn, speech=speech, height=charts.bars_high(found))]
 
@@ -319,7 +319,7 @@ class Change:
 def _label(row: Given, speech: Speech) -> Labelled:
     """A bar with its label, which is broken where its value begins."""
     lines = break_lines(row.title, (charts.WIDTH - charts.VALUE_ROOM) / (LARGEST * LETTER))
-    label = [apart(it, speech.language.dir) for it in lines] or [""]
+    label = [apart(line, speech.language.dir) for line in lines] or [""]
     return Labelled(label, pp(row.value, speech=speech), row.value.over / row.value.under)
 
 
@@ -355,9 +355,9 @@ class ReleasePictures:
 
     def _write_files(self, release: Release, charts: Sequence[Chart]) -> None:
         source = self._source(release)
-        for it in charts:
-            text = drawing(it, release.shown.series.title(ALL_ITEMS), source)
-            (self._folder / "picture" / f"{release.name}-{it.kind}.svg").write_bytes(text.encode())
+        for chart in charts:
+            text = drawing(chart, release.shown.series.title(ALL_ITEMS), source)
+            (self._folder / "picture" / f"{release.name}-{chart.kind}.svg").write_bytes(text.encode())
 
     def _source(self, release: Release) -> str:
         """The line at the foot of a picture's file."""

@@ -49,21 +49,21 @@ class Lead(NamedTuple):
 
 def values_of(parts: Iterable[Contribution], is_annual: bool) -> Values:
     """The codes of those that give something, with what they give."""
-    values = [(it.code, it.to_year if is_annual else it.to_month) for it in parts]
+    values = [(part.code, part.to_year if is_annual else part.to_month) for part in parts]
     return [(code, value) for code, value in values if value is not None]
 
 
 def sorted_values(parts: Iterable[Contribution], is_annual: bool) -> Values:
     """The contributions, the largest first."""
-    return sorted(values_of(parts, is_annual), key=lambda it: (-Fraction(*it[1]), it[0]))
+    return sorted(values_of(parts, is_annual), key=lambda value: (-Fraction(*value[1]), value[0]))
 
 
-def with_bars(shown: Shown, month: str, found: Values) -> tuple[list[Given], str]:
+def with_bars(shown: Shown, month: str, values: Values) -> tuple[list[Given], str]:
     """The rows of a table of what some nodes give, and where zero is on the track."""
-    track = charts.track([value.over / value.under for _, value in found])
+    track = charts.track([value.over / value.under for _, value in values])
     rows = [
         Given(code, shown.series.title(code), shown.row(month, code), value, bar)
-        for (code, value), bar in zip(found, track.bars)
+        for (code, value), bar in zip(values, track.bars)
     ]
     return rows, track.zero
 
@@ -77,8 +77,8 @@ def lead_of(rows: Sequence[Given], change: int) -> Lead:
     most = ends[0] if ends and ends[0].value.over * sign > 0 else None
     against = ends[-1] if ends and ends[-1].value.over * sign < 0 else None
     total = Ratio(0, 1)
-    for it in rows:
-        total = total.plus(it.value)
+    for row in rows:
+        total = total.plus(row.value)
     return Lead(most, against, total)
 
 
@@ -142,21 +142,21 @@ def of_node(shown: Shown, code: str) -> list[Chart]:
     title = apart(series.title(code), speech.language.dir)
     end = next(at for at in range(len(series.months), 0, -1) if series.level(series.months[at - 1], code) is not None)
     months = series.months[max(0, end - charts.MOST_MONTHS) : end]
-    found = [_level(shown, code, months)]
+    levels = [_level(shown, code, months)]
     names = (
         (True, YEAR, speech.t("Annual change"), mark_text("{title}: annual change")),
         (False, MONTH, speech.t("Monthly change"), mark_text("{title}: monthly change")),
     )
     for is_annual, kind, texts, of_title in names:
-        values = [None if it is None else it / 10 for it in shown.changes(months, code, is_annual)]
+        values = [None if change is None else change / 10 for change in shown.changes(months, code, is_annual)]
         known = _ends(values, months)
         if known:
             # (what isn't known yet isn't drawn: the annual change begins with the second year)
             first = months.index(known[0][0])
             picture = Picture(kind, speech.t(of_title, title=title), _between(speech, known), speech)
             drawn = charts.columns(picture, months[first:], values[first:])
-            found.append(Chart(kind, texts, speech.t("Percent"), drawn, speech=speech))
-    return found
+            levels.append(Chart(kind, texts, speech.t("Percent"), drawn, speech=speech))
+    return levels
 
 
 def figures_of(shown: Shown, code: str, kind: str) -> list[tuple[str, str]]:
@@ -165,12 +165,14 @@ def figures_of(shown: Shown, code: str, kind: str) -> list[tuple[str, str]]:
     speech, months = shown.speech, shown.series.months[-charts.MOST_MONTHS :]
     if kind == LEVEL:
         months = [before(months[0]), *months] if len(months) == 1 else months
-        found = [(month, _text(shown, month, code)) for month in months]
+        figures = [(month, _text(shown, month, code)) for month in months]
     else:
         changes = shown.changes(months, code, kind == YEAR)
-        found = [(month, "" if it is None else with_sign(tenths(it))) for month, it in zip(months, changes)]
-        found = found[next(at for at, (_, text) in enumerate(found) if text) :]
-    return [(speech.month(month), speech.figure(text) if text else NO_FIGURE) for month, text in found[::-1]]
+        figures = [
+            (month, "" if change is None else with_sign(tenths(change))) for month, change in zip(months, changes)
+        ]
+        figures = figures[next(at for at, (_, text) in enumerate(figures) if text) :]
+    return [(speech.month(month), speech.figure(text) if text else NO_FIGURE) for month, text in figures[::-1]]
 
 
 def _between(speech: Speech, known: Sequence[tuple[str, float]]) -> str:
@@ -356,6 +358,6 @@ def of_imputed(series: Series, speech: Speech = SPEAKS_ENGLISH) -> Imputed:
         says = speech.t("{share} percent of the weight.", share=least)
     name = speech.t("Aggregates in which a price was imputed")
     figures = [(speech.month(month), speech.figure(share)) for month, share in zip(months, shares)][::-1]
-    drawn = charts.columns(Picture(IMPUTED, name, says, speech), months, [float(it) for it in shares])
+    drawn = charts.columns(Picture(IMPUTED, name, says, speech), months, [float(share) for share in shares])
     chart = Chart(IMPUTED, name, speech.t("Percent of the total weight"), drawn, speech=speech)
     return Imputed(figures[0][1], figures, chart)

@@ -96,8 +96,8 @@ def kept_quality(pack: Path) -> KeptQuality:
     except (OSError, TypeError, ValueError, csv.Error) as fault:
         raise OtherQuality(f"{path} can't be read: {' '.join(str(fault).split())}") from fault
     return kept._replace(
-        figures=[it for it in figures if it.month and it.status != SUPERSEDED_FIGURE],
-        superseded=[it for it in figures if it.status == SUPERSEDED_FIGURE],
+        figures=[figure for figure in figures if figure.month and figure.status != SUPERSEDED_FIGURE],
+        superseded=[figure for figure in figures if figure.status == SUPERSEDED_FIGURE],
         corrections=definition_of(QUALITY, read_told(pack)),
     )
 
@@ -105,7 +105,7 @@ def kept_quality(pack: Path) -> KeptQuality:
 def superseded_by(figures: Iterable[Figure], packs: Iterable[KeptQuality], given: Reasons) -> list[Figure]:
     """The figures of packs that differ from the current ones, each once. Raises OtherQuality if the office gave no
     reason since the pack that has them."""
-    now, found = {it.key: it for it in figures}, dict[Figure, None]()
+    now, found = {figure.key: figure for figure in figures}, dict[Figure, None]()
     for pack in packs:
         found.update(dict.fromkeys(pack.superseded))
         for then in _find_changes(pack, now):
@@ -226,8 +226,8 @@ MAIN = re.compile(rb"<main.*</main>", re.DOTALL)
 
 def _main_of(page: Path) -> bytes:
     """The content of a page."""
-    found = MAIN.search(page.read_bytes())
-    return found[0] if found else b""
+    match = MAIN.search(page.read_bytes())
+    return match[0] if match else b""
 
 
 class Earlier(NamedTuple):
@@ -241,8 +241,8 @@ class Earlier(NamedTuple):
 def changed_pages(before: Earlier, new: Path, series: Series) -> list[str]:
     """The pages of releases that differ between a new pack and the one before, except pages that a further revision
     or a reason changes."""
-    revised = {it.month for it in series.vintages if (it.month, it.revision) not in before.tables}
-    stay = (it for it in sorted(before.tables) if it[0] not in revised and it not in before.reasoned)
+    revised = {vintage.month for vintage in series.vintages if (vintage.month, vintage.revision) not in before.tables}
+    stay = (table for table in sorted(before.tables) if table[0] not in revised and table not in before.reasoned)
     pages = (page_of_release(month, revision) for month, revision in stay)
-    there = (it for it in pages if (before.folder / it).is_file())
-    return [it for it in there if _main_of(before.folder / it) != _main_of(new / it)]
+    there = (page for page in pages if (before.folder / page).is_file())
+    return [page for page in there if _main_of(before.folder / page) != _main_of(new / page)]

@@ -54,7 +54,9 @@ class Event(NamedTuple):
 
 def find_moved(series: Series, config: Config) -> list[Announced]:
     """The releases that moved from their announced time, or did so in the last months, the latest move first."""
-    first, out = before(series.months[-1], EVENT_MONTHS - 1), {(it.month, it.revision) for it in series.vintages}
+    first, out = before(series.months[-1], EVENT_MONTHS - 1), {
+        (vintage.month, vintage.revision) for vintage in series.vintages
+    }
     ahead = {(it.month, it.revision) for it in coming(series, config.planned)}
     found = (it for it in config.announced if it.moves and (it.of in ahead or (it.of in out and it.month >= first)))
     return sorted(found, key=lambda it: (it.said, it.of), reverse=True)
@@ -94,14 +96,14 @@ def write_ics(
 ) -> None:
     """Writes the releases of the last months and those to come."""
     first = before(series.months[-1], EVENT_MONTHS - 1)
-    tables = [(it.table, it.headline) for it in releases if it.table.month >= first]
-    events = [Event(it.month, it.revision, it.moment, says) for it, says in tables]
+    tables = [(release.table, release.headline) for release in releases if release.table.month >= first]
+    events = [Event(table.month, table.revision, table.moment, says) for table, says in tables]
     events += [Event(it.month, it.revision, it.moment) for it in coming(series, config.planned)]
     known = {it.of: it for it in config.announced if it.moves}
-    for at, it in enumerate(events):
-        change = known.get((it.month, it.revision))
+    for at, event in enumerate(events):
+        change = known.get((event.month, event.revision))
         if change:
-            events[at] = it._replace(moves=change.moves, said=change.said)
+            events[at] = event._replace(moves=change.moves, said=change.said)
     lines = (line for it in _lines(series, config, events, speech) for line in _fold(it))
     to.write_bytes(b"".join(line + b"\r\n" for line in lines))
 
@@ -115,18 +117,18 @@ def _lines(series: Series, config: Config, events: Sequence[Event], speech: Spee
         "METHOD:PUBLISH",
     )
     yield f"X-WR-CALNAME:{_text(speech.row([config.title, config.office]))}"
-    for it in events:
+    for event in events:
         yield "BEGIN:VEVENT"
-        yield f"UID:{name_of(it.month, it.revision)}.{config.area}.{config.agency}@cpi"
-        yield f"DTSTAMP:{_stamp(max(it.said, series.moment))}"
-        if it.moves:
-            yield f"SEQUENCE:{it.moves}"
-        yield f"DTSTART:{_stamp(it.moment)}"
-        yield f"SUMMARY:{_text(speech.row([config.title, release_text(speech, it.month, it.revision)]))}"
-        if it.says:
-            yield f"DESCRIPTION:{_text(f'{it.says}.')}"
+        yield f"UID:{name_of(event.month, event.revision)}.{config.area}.{config.agency}@cpi"
+        yield f"DTSTAMP:{_stamp(max(event.said, series.moment))}"
+        if event.moves:
+            yield f"SEQUENCE:{event.moves}"
+        yield f"DTSTART:{_stamp(event.moment)}"
+        yield f"SUMMARY:{_text(speech.row([config.title, release_text(speech, event.month, event.revision)]))}"
+        if event.says:
+            yield f"DESCRIPTION:{_text(f'{event.says}.')}"
         if config.address:
-            yield f"URL:{config.address}{it.address}"
+            yield f"URL:{config.address}{event.address}"
         yield from ("TRANSP:TRANSPARENT", "END:VEVENT")
     yield "END:VCALENDAR"
 
@@ -174,7 +176,9 @@ def write_feed(
     folder: Path, config: Config, series: Series, releases: Iterable[Release], speech: Speech = SPEAKS_ENGLISH
 ) -> None:
     """Writes the feed into the folder of a site whose address is known."""
-    last = sorted(releases, key=lambda it: (it.table.moment, it.table.month, it.table.revision), reverse=True)
+    last = sorted(
+        releases, key=lambda release: (release.table.moment, release.table.month, release.table.revision), reverse=True
+    )
     lines = _feed_lines(config, series, last[:MOST_ENTRIES], speech)
     (folder / FEED).write_text("".join(f"{line}\n" for line in lines), encoding="utf-8")
 
@@ -186,34 +190,38 @@ def _feed_lines(config: Config, series: Series, releases: Sequence[Release], spe
     yield f"<id>{config.address}</id>"
     yield f"<title>{_atom_text(config.title)}</title>"
     yield f"<subtitle>{_atom_text(speech.t('Releases of {office}', office=config.office))}</subtitle>"
-    said = [*(it.last_said for it in releases), *(it.said for it in moves)]
+    said = [*(release.last_said for release in releases), *(move.said for move in moves)]
     yield f"<updated>{iso(max([series.moment, *said]))}</updated>"
     yield f"<author><name>{_atom_text(config.office)}</name></author>"
     yield f'<link rel="self" type="application/atom+xml" href={quoteattr(config.address + FEED)}/>'
     yield f'<link rel="alternate" type="text/html" href={quoteattr(config.address)}/>'
-    entries = [(it.table.moment, [*_entry(config, it, speech)]) for it in releases]
-    entries += [(it.said, [*_move(config, series, it, speech)]) for it in moves]
-    for _, entry in sorted(entries, key=lambda it: it[0], reverse=True)[:MOST_ENTRIES]:
+    entries = [(release.table.moment, [*_entry(config, release, speech)]) for release in releases]
+    entries += [(move.said, [*_move(config, series, move, speech)]) for move in moves]
+    for _, entry in sorted(entries, key=lambda entry: entry[0], reverse=True)[:MOST_ENTRIES]:
         yield from entry
     yield "</feed>"
 
 
-def _move(config: Config, series: Series, it: Announced, speech: Speech) -> Iterator[str]:
+def _move(config: Config, series: Series, announcement: Announced, speech: Speech) -> Iterator[str]:
     """The entry of a release that moved from its announced time."""
-    release, clock = release_text(speech, it.month, it.revision), config.clock
-    places = {"release": release, "before": clock.day(it.before or 0, speech), "moment": clock.day(it.moment, speech)}
-    if it.moment > series.moment:
+    release, clock = release_text(speech, announcement.month, announcement.revision), config.clock
+    places = {
+        "release": release,
+        "before": clock.day(announcement.before or 0, speech),
+        "moment": clock.day(announcement.moment, speech),
+    }
+    if announcement.moment > series.moment:
         says = speech.t("{release} was announced for {before}, and will be published on {moment}.", **places)
     else:
         says = speech.t("{release} was announced for {before}, and was published on {moment}.", **places)
-    if it.reason:
-        why = speech.t("The office gives this reason: {reason}", reason=apart(it.reason, speech.language.dir))
+    if announcement.reason:
+        why = speech.t("The office gives this reason: {reason}", reason=apart(announcement.reason, speech.language.dir))
         says = f"{says} {why}"
-    address = f"{config.address}{PAGE}#{name_of(it.month, it.revision)}-moved-{it.moves}"
+    address = f"{config.address}{PAGE}#{name_of(announcement.month, announcement.revision)}-moved-{announcement.moves}"
     yield f"<entry><id>{address}</id>"
     title = speech.t("Moved: {release}", release=release)
     yield f"<title>{_atom_text(title)}</title>"
-    yield f"<published>{iso(it.said)}</published><updated>{iso(it.said)}</updated>"
+    yield f"<published>{iso(announcement.said)}</published><updated>{iso(announcement.said)}</updated>"
     yield f'<link rel="alternate" type="text/html" href={quoteattr(address)}/>'
     yield f"<summary>{_atom_text(says)}</summary></entry>"
 
@@ -236,10 +244,10 @@ def _says(release: Release, speech: Speech) -> Iterator[str]:
     yield f"{release.headline}."
     if release.provisional:
         yield provisional_then(release.provisional, speech)
-    for it in release.reasons:
+    for reason in release.reasons:
         yield speech.t(
             "Why the office revised this month: {reason}",
-            reason=apart(it.say(speech.language.tag), speech.language.dir),
+            reason=apart(reason.say(speech.language.tag), speech.language.dir),
         )
 
 
@@ -310,10 +318,10 @@ def citation_of(config: Config, release: Release, version: Version, size: int) -
 
 def write_citations(pack: Path, config: Config, release: Release, version: Version, size: int) -> None:
     """Writes the files of a release next to its page; DataCite's in the first language only."""
-    it = citation_of(config, release, version, size)
-    texts = {BIBTEX: bibtex(it), RIS: ris(it)}
-    if it.doi and not version.folder:
-        texts[DATACITE] = datacite(it)
+    citation = citation_of(config, release, version, size)
+    texts = {BIBTEX: bibtex(citation), RIS: ris(citation)}
+    if citation.doi and not version.folder:
+        texts[DATACITE] = datacite(citation)
     for end, text in texts.items():
         (pack / version.folder / FOLDER / f"{release.name}{end}").write_bytes(text.encode())
 
@@ -321,23 +329,23 @@ def write_citations(pack: Path, config: Config, release: Release, version: Versi
 # ---- forms
 
 
-def bibtex(it: Citation) -> str:
+def bibtex(citation: Citation) -> str:
     """A record of BibTeX."""
-    author, title, licence, says = map(_latex, (it.office, it.title, it.licence, it.says))
+    author, title, licence, says = map(_latex, (citation.office, citation.title, citation.licence, citation.says))
     fields = {
         "author": f"{{{author}}}",
         "title": f"{{{title}}}",
-        "year": f"{it.day.year:04}",
+        "year": f"{citation.day.year:04}",
         "publisher": f"{{{author}}}",
-        "version": str(it.revision),
-        "language": it.language,
+        "version": str(citation.revision),
+        "language": citation.language,
         "copyright": licence and f"{{{licence}}}",
         "abstract": f"{{{says}}}",
-        "doi": it.doi,
-        "url": it.address,
+        "doi": citation.doi,
+        "url": citation.address,
     }
     lines = [f"  {name} = {{{value}}},\n" for name, value in fields.items() if value]
-    return f"@misc{{{it.key},\n{''.join(lines)}  month = {MONTHS[it.day.month - 1]},\n}}\n"
+    return f"@misc{{{citation.key},\n{''.join(lines)}  month = {MONTHS[citation.day.month - 1]},\n}}\n"
 
 
 def _latex(text: str) -> str:
@@ -345,22 +353,22 @@ def _latex(text: str) -> str:
     return "".join(SIGNS.get(sign, sign) for sign in _line(text))
 
 
-def ris(it: Citation) -> str:
+def ris(citation: Citation) -> str:
     """A record of RIS."""
     fields = (
         ("TY", "DATA"),
-        ("AU", it.office),
-        ("TI", it.title),
-        ("PY", f"{it.day.year:04}"),
-        ("DA", f"{it.day:%Y/%m/%d}/"),
-        ("PB", it.office),
-        ("ET", str(it.revision)),
-        ("LA", it.language),
-        ("AB", it.says),
-        ("C1", it.licence),
-        ("DO", it.doi),
-        ("UR", it.address),
-        ("ID", it.key),
+        ("AU", citation.office),
+        ("TI", citation.title),
+        ("PY", f"{citation.day.year:04}"),
+        ("DA", f"{citation.day:%Y/%m/%d}/"),
+        ("PB", citation.office),
+        ("ET", str(citation.revision)),
+        ("LA", citation.language),
+        ("AB", citation.says),
+        ("C1", citation.licence),
+        ("DO", citation.doi),
+        ("UR", citation.address),
+        ("ID", citation.key),
     )
     lines = [f"{tag}  - {_line(value)}\r\n" for tag, value in fields if value]
     return f"{''.join(lines)}ER  - \r\n"
@@ -371,31 +379,33 @@ def _line(text: str) -> str:
     return re.sub(" +", " ", re.sub(r"[\x00-\x1f\x7f-\x9f\u2028\u2029]", " ", FORBIDDEN.sub(" ", text))).strip()
 
 
-def datacite(it: Citation) -> str:
+def datacite(citation: Citation) -> str:
     """A record of DataCite."""
-    tagged = attributes_of({"xml:lang": it.language})
-    licence = attributes_of({"rightsURI": it.licence if is_address(it.licence) else ""})
-    rights = f" <rightsList><rights{licence}>{text_of(it.licence)}</rights></rightsList>\n" if it.licence else ""
+    tagged = attributes_of({"xml:lang": citation.language})
+    licence = attributes_of({"rightsURI": citation.licence if is_address(citation.licence) else ""})
+    rights = (
+        f" <rightsList><rights{licence}>{text_of(citation.licence)}</rights></rightsList>\n" if citation.licence else ""
+    )
     at = attributes_of({"alternateIdentifierType": "URL"})
-    address = f" <alternateIdentifiers><alternateIdentifier{at}>{text_of(it.address)}</alternateIdentifier></alternateIdentifiers>\n"
+    address = f" <alternateIdentifiers><alternateIdentifier{at}>{text_of(citation.address)}</alternateIdentifier></alternateIdentifiers>\n"
     related = attributes_of({"relatedIdentifierType": "DOI", "relationType": "IsVersionOf"})
     return (
         '<?xml version="1.0" encoding="UTF-8"?>\n'
         f'<resource xmlns="{KERNEL}" xmlns:xsi="http://www.w3.org/2001/XMLSchema-instance" xsi:schemaLocation="{SCHEMA}">\n'
-        f' <identifier identifierType="DOI">{it.doi}</identifier>\n'
-        f' <creators><creator><creatorName nameType="Organizational">{text_of(it.office)}</creatorName></creator></creators>\n'
-        f" <titles><title{tagged}>{text_of(it.title)}</title></titles>\n"
-        f" <publisher>{text_of(it.office)}</publisher>\n"
-        f" <publicationYear>{it.day.year:04}</publicationYear>\n"
+        f' <identifier identifierType="DOI">{citation.doi}</identifier>\n'
+        f' <creators><creator><creatorName nameType="Organizational">{text_of(citation.office)}</creatorName></creator></creators>\n'
+        f" <titles><title{tagged}>{text_of(citation.title)}</title></titles>\n"
+        f" <publisher>{text_of(citation.office)}</publisher>\n"
+        f" <publicationYear>{citation.day.year:04}</publicationYear>\n"
         ' <resourceType resourceTypeGeneral="Dataset">Consumer price index</resourceType>\n'
-        f' <dates><date dateType="Issued">{it.day.isoformat()}</date></dates>\n'
-        f" <language>{it.language}</language>\n"
-        f"{address if it.address else ''}"
-        f" <relatedIdentifiers><relatedIdentifier{related}>{it.of}</relatedIdentifier></relatedIdentifiers>\n"
-        f" <sizes><size>{it.size} B</size></sizes>\n"
+        f' <dates><date dateType="Issued">{citation.day.isoformat()}</date></dates>\n'
+        f" <language>{citation.language}</language>\n"
+        f"{address if citation.address else ''}"
+        f" <relatedIdentifiers><relatedIdentifier{related}>{citation.of}</relatedIdentifier></relatedIdentifiers>\n"
+        f" <sizes><size>{citation.size} B</size></sizes>\n"
         " <formats><format>text/csv</format></formats>\n"
-        f" <version>{it.revision}</version>\n"
+        f" <version>{citation.revision}</version>\n"
         f"{rights}"
-        f' <descriptions><description descriptionType="Abstract"{tagged}>{text_of(it.says)}</description></descriptions>\n'
+        f' <descriptions><description descriptionType="Abstract"{tagged}>{text_of(citation.says)}</description></descriptions>\n'
         "</resource>\n"
     )

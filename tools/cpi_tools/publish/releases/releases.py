@@ -58,9 +58,9 @@ class Release(NamedTuple):
     @property
     def whole(self) -> Row:
         """The row of all items, with the changes that are shown."""
-        found = self.shown.row(self.table.month, ALL_ITEMS)
-        assert found
-        return found
+        row = self.shown.row(self.table.month, ALL_ITEMS)
+        assert row
+        return row
 
     @property
     def is_annual(self) -> bool:
@@ -85,7 +85,7 @@ class Release(NamedTuple):
     @property
     def last_said(self) -> int:
         """When the office last said something of it: at its publication, or when it gave a reason later."""
-        return max(self.table.moment, *(it.moment for it in self.reasons), 0)
+        return max(self.table.moment, *(reason.moment for reason in self.reasons), 0)
 
     @property
     def name(self) -> str:
@@ -117,27 +117,31 @@ class Moved(NamedTuple):
 
 def releases_of(series: Series, config: Config, speech: Speech) -> list[Release]:
     """All releases that have rows, by month and revision. Raises BadReasons."""
-    found, reasons = [], given_reasons(config.reasons, series, config.planned)
+    releases, reasons = [], given_reasons(config.reasons, series, config.planned)
     for as_of in each_as_of(series):
         month = as_of.of.month
         reference = config.reference_in(month)
-        is_covered = any(it.startswith(reference) for it in (as_of.base, *as_of.months))
+        is_covered = any(month.startswith(reference) for month in (as_of.base, *as_of.months))
         shown = Shown(as_of, reference if is_covered else "", config.rates_in(month)).spoken(speech)
         provisional = _provisional(as_of, config.provisional_in(month))
         own = tuple(reasons.get((month, as_of.of.revision), ()))
-        found.append(Release(as_of, shown, tuple(_later(series, as_of.of)), provisional, own))
-    return sorted(found, key=lambda it: (it.table.month, it.table.revision))
+        releases.append(Release(as_of, shown, tuple(_later(series, as_of.of)), provisional, own))
+    return sorted(releases, key=lambda release: (release.table.month, release.table.revision))
 
 
 def _later(series: Series, of: Table) -> Iterator[Table]:
     """The revisions of a month that came later than one of its tables."""
-    return (it for it in series.vintages if it.month == of.month and it.revision > of.revision)
+    return (vintage for vintage in series.vintages if vintage.month == of.month and vintage.revision > of.revision)
 
 
 def _provisional(as_of: AsOf, months: int) -> int:
     """The number of months, if the release's month was among the last ones of its day; otherwise 0."""
     of = as_of.of
-    after = {it.month for it in as_of.whole.vintages if it.month > of.month and it.moment <= of.moment and it.rows}
+    after = {
+        vintage.month
+        for vintage in as_of.whole.vintages
+        if vintage.month > of.month and vintage.moment <= of.moment and vintage.rows
+    }
     return months if len(after) < months else 0
 
 
@@ -145,8 +149,8 @@ def hundreds_of(releases: Sequence[Release]) -> str:
     """In which period the index of some releases, the last one first, is 100, and from which month on if they differ:
     `December 2024 = 100, from December 2025 on 2025 = 100`."""
     found, speech = dict[str, str](), releases[0].shown.speech
-    for it in reversed(releases):
-        found.setdefault(speech.period(it.reference_period), speech.month(it.table.month))
+    for release in reversed(releases):
+        found.setdefault(speech.period(release.reference_period), speech.month(release.table.month))
     first, *others = found
     text = speech.t("{period} = 100", period=first)
     for period in others:
@@ -197,21 +201,27 @@ def page_words(release: Release, rows: list[Given], zero: str) -> dict[str, obje
 def _revised_bases(as_of: AsOf, rows: list[Given], speech: Speech) -> Iterator[Base]:
     """The revised months that the figures of all items are computed from, but those of which a further revision wasn't
     published then, as the divisions show it."""
-    found = [as_of.of.rows[ALL_ITEMS], *(as_of.of.rows[it.code] for it in rows if it.row)]
-    hidden = frozenset(month for row in found for month in hidden_bases(as_of, row))
-    return revised_bases(as_of, found[0], hidden, speech)
+    bases = [as_of.of.rows[ALL_ITEMS], *(as_of.of.rows[row.code] for row in rows if row.row)]
+    hidden = frozenset(month for row in bases for month in hidden_bases(as_of, row))
+    return revised_bases(as_of, bases[0], hidden, speech)
 
 
 def revision_before(as_of: AsOf) -> Optional[Revised]:
     """The changes of a release, if it is a further revision of its month."""
-    mine = [it for it in as_of.vintages if it.month == as_of.of.month and it.revision < as_of.of.revision]
+    mine = [
+        vintage
+        for vintage in as_of.vintages
+        if vintage.month == as_of.of.month and vintage.revision < as_of.of.revision
+    ]
     return revised_of(mine[-1], as_of.of) if mine else None
 
 
 def release_before(as_of: AsOf) -> Optional[Table]:
     """The first release of the month before, which this one is read after."""
-    earlier = (it for it in as_of.vintages if it.month == before(as_of.of.month) and it.revision == 1)
-    return next((it for it in earlier if it.rows), None)
+    earlier = (
+        vintage for vintage in as_of.vintages if vintage.month == before(as_of.of.month) and vintage.revision == 1
+    )
+    return next((vintage for vintage in earlier if vintage.rows), None)
 
 
 def revised_since(as_of: AsOf) -> list[Revised]:
@@ -220,7 +230,9 @@ def revised_since(as_of: AsOf) -> list[Revised]:
     if last is None or as_of.of.revision > 1:
         return []
     pairs = zip(as_of.vintages, as_of.vintages[1:])
-    found = (it for it in pairs if it[0].month == it[1].month != as_of.of.month and it[1].moment > last.moment)
+    found = (
+        pair for pair in pairs if pair[0].month == pair[1].month != as_of.of.month and pair[1].moment > last.moment
+    )
     return [revised_of(old, new) for old, new in found]
 
 
@@ -234,8 +246,8 @@ def moved_in(as_of: AsOf) -> Moved:
 
 def _greatest(one: Table, other: Table) -> list[tuple[str, str]]:
     """The nodes of a table that another hasn't, without those below such a node."""
-    found = one.rows.keys() - other.rows.keys()
-    return [(code, one.rows[code].title) for code in sorted(found) if parent_of(code) not in found]
+    keys = one.rows.keys() - other.rows.keys()
+    return [(code, one.rows[code].title) for code in sorted(keys) if parent_of(code) not in keys]
 
 
 # ---- writing

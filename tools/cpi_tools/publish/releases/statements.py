@@ -48,9 +48,9 @@ def _lines(config: Config, release: Release, paragraphs: Sequence[Worded], versi
     yield ""
     yield f"{release.headline}."
     yield t("The index is {index} ({period} = 100).", index=release.index_text, period=period)
-    for it in paragraphs:
+    for paragraph in paragraphs:
         yield ""
-        yield apart(it, way)
+        yield apart(paragraph, way)
     notes = notes_then(release.shown, ALL_ITEMS, release.provisional).sentences
     if notes:
         yield ""
@@ -113,15 +113,15 @@ class Statements:
             self._since_last_month(release),
             self._say_revised(release),
         )
-        return [_join([*it]) for found in paragraphs if (it := [*found])]
+        return [_join([*it]) for paragraph in paragraphs if (it := [*paragraph])]
 
     # ---- contributions
 
     def _contributions(self, rows: Sequence[Given]) -> Iterator[Worded]:
         """The largest ones up and down, of those that are shown with another figure than zero."""
-        t, shown = self._speech.t, [it for it in rows if _is_seen(it.value)]
-        ups = [it for it in shown if it.value.over > 0][:MOST_NAMED]
-        downs = [it for it in shown[::-1] if it.value.over < 0][:MOST_NAMED]
+        t, shown = self._speech.t, [row for row in rows if _is_seen(row.value)]
+        ups = [given_value for given_value in shown if given_value.value.over > 0][:MOST_NAMED]
+        downs = [given_value for given_value in shown[::-1] if given_value.value.over < 0][:MOST_NAMED]
         if len(ups) == 1:
             form = t("The largest upward contribution, in percentage points, came from {items}.")
         else:
@@ -139,8 +139,8 @@ class Statements:
         """Some items, each with what it gives."""
         # t: an item with its contribution in percentage points: Transport (+0.51)
         form = self._speech.t("{title} ({points})")
-        found = [word_text(form, title=of_others(it.title), points=pp(it.value, 2, self._speech)) for it in rows]
-        return Worded(self._speech.list_texts(["{}"] * len(found)), *found)
+        texts = [word_text(form, title=of_others(row.title), points=pp(row.value, 2, self._speech)) for row in rows]
+        return Worded(self._speech.list_texts(["{}"] * len(texts)), *texts)
 
     # ---- special aggregates and core inflation
 
@@ -149,7 +149,7 @@ class Statements:
         config, month = self._config, release.table.month
         if release.shown.rates != EXACT or month < config.press_since:
             return
-        measures = {name: it for name, it in measures_of(config.core).items() if name in config.press}
+        measures = {name: measure for name, measure in measures_of(config.core).items() if name in config.press}
         core = CoreComputed(release.as_of.latest).rows(measures, month) if measures else {}
         for name in config.press:
             if release.table.moment < self._find_definition(name):
@@ -164,9 +164,9 @@ class Statements:
         """The changes of a special aggregate as they were on the release's day."""
         month, moment = release.table.month, release.table.moment
         row = self._series.specials[name].rows.get(month)
-        found = self._vintages.get(name, {}).get(month, [])
-        then = [it.row for it in found if it.moment <= moment]
-        row = then[-1] if then else None if found else row
+        vintage = self._vintages.get(name, {}).get(month, [])
+        then = [vintage.row for vintage in vintage if vintage.moment <= moment]
+        row = then[-1] if then else None if vintage else row
         if row:
             yield Named(self._series.title(name), False, row.month_change, row.year_change)
 
@@ -199,8 +199,13 @@ class Statements:
             {it.code: Fraction(*it.to_year) for it in contributions.below(each, ALL_ITEMS) if it.to_year}
             for each in (month, now)
         )
-        found = [(later.get(code, Fraction()) - earlier.get(code, Fraction()), code) for code in {**later, **earlier}]
-        return [(value, as_of.title(code)) for value, code in sorted(found, key=lambda it: (-it[0], it[1]))]
+        differences = [
+            (later.get(code, Fraction()) - earlier.get(code, Fraction()), code) for code in {**later, **earlier}
+        ]
+        return [
+            (value, as_of.title(code))
+            for value, code in sorted(differences, key=lambda difference: (-difference[0], difference[1]))
+        ]
 
     def _say_movers(self, differences: Sequence[tuple[Fraction, str]]) -> Iterator[Worded]:
         """The contributions that rose and fell most."""
@@ -273,9 +278,9 @@ class Statements:
     def _why(self, table: Table, moment: int) -> Iterator[Worded]:
         """The reasons that the office had given by a moment."""
         tag = self._speech.language.tag
-        for it in self._reasons.get((table.month, table.revision), ()):
-            if it.moment <= moment:
-                yield word_text(self._speech.t("Reason: {reason}"), reason=of_others(it.say(tag)))
+        for reason in self._reasons.get((table.month, table.revision), ()):
+            if reason.moment <= moment:
+                yield word_text(self._speech.t("Reason: {reason}"), reason=of_others(reason.say(tag)))
 
 
 def _say_special(speech: Speech, it: Named) -> Worded:

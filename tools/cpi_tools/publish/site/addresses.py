@@ -65,12 +65,14 @@ def write_sitemap(
 ) -> None:
     """Writes the map of all pages of a pack in all languages, each with the moment at which it last changed: the page of a
     release is changed by a revision, or by a reason that the office gives later, and all others by each table."""
-    changed = {it.page: max(it.last_said, *(table.moment for table in it.later), 0) for it in releases}
-    folders = tuple(it.folder for it in versions if it.folder)
+    changed = {
+        release.page: max(release.last_said, *(table.moment for table in release.later), 0) for release in releases
+    }
+    folders = tuple(version.folder for version in versions if version.folder)
     rows = list[str]()
     for version in versions:
         own = folder / version.folder
-        pages = sorted(it.relative_to(own).as_posix() for it in own.rglob("*.html"))
+        pages = sorted(path.relative_to(own).as_posix() for path in own.rglob("*.html"))
         others = (LOST, EMBEDDED, *(() if version.folder else folders))
         for page in pages:
             if not page.startswith(others):
@@ -132,7 +134,7 @@ def dataset(
                 " a Laspeyres-type index, which is chained each December. The Consumer Price Index Manual:"
                 " Concepts and Methods (2020) describes both."
             ),
-            "variableMeasured": [speech.t(it.name) for it in measures_of(config)],
+            "variableMeasured": [speech.t(measure.name) for measure in measures_of(config)],
             "url": address_of(config, "data.html", version),
             "dateModified": iso(series.moment),
             "temporalCoverage": f"{series.months[0]}/{series.months[-1]}",
@@ -251,34 +253,34 @@ def write_catalog(series: Series, languages: Sequence[Spoken], files: NewFiles) 
     publisher: Node = {
         "@id": f"{config.address}#office",
         "@type": "foaf:Agent",
-        "foaf:name": _say(languages, lambda it: it.config.office),
+        "foaf:name": _say(languages, lambda language: language.config.office),
         "foaf:homepage": _is(config.address),
     }
     own: Node = {"dct:publisher": publisher, **_licence(config)}
-    found: Node = {
+    node: Node = {
         "@context": PREFIXES,
         "@id": f"{config.address}data/{NAME}",
         "@type": "dcat:Catalog",
-        "dct:title": _say(languages, lambda it: it.config.title),
+        "dct:title": _say(languages, lambda language: language.config.title),
         "dct:description": _say(languages, _describes(series)),
         **own,
-        "dct:language": [_language(it.tag) for it in languages],
+        "dct:language": [_language(language.tag) for language in languages],
         "dct:modified": _moment(series.moment),
         "foaf:homepage": _is(config.address),
         "dcat:dataset": _dataset(series, languages, files, own),
     }
-    files.write(f"data/{NAME}", (json.dumps(found, ensure_ascii=False, indent=1) + "\n").encode())
+    files.write(f"data/{NAME}", (json.dumps(node, ensure_ascii=False, indent=1) + "\n").encode())
 
 
 def _dataset(series: Series, languages: Sequence[Spoken], files: NewFiles, own: Node) -> Node:
     """The data of the index."""
     config = languages[0].config
-    first = min(it.moment for it in series.vintages)
-    found: Node = {
+    first = min(vintage.moment for vintage in series.vintages)
+    node: Node = {
         "@id": f"{config.address}data.html#index",
         "@type": "dcat:Dataset",
         "dct:identifier": identifier_of(config),
-        "dct:title": _say(languages, lambda it: it.config.title),
+        "dct:title": _say(languages, lambda language: language.config.title),
         "dct:description": _say(languages, _describes(series)),
         **own,
         "dct:issued": _moment(first),
@@ -286,8 +288,8 @@ def _dataset(series: Series, languages: Sequence[Spoken], files: NewFiles, own: 
         "dct:accrualPeriodicity": _is(MONTHLY),
         "dct:accessRights": _is(PUBLIC),
         "dcat:theme": _is(ECONOMY),
-        "dcat:keyword": [*_say(languages, lambda it: it.speech.t("Consumer price index")), "COICOP 2018"],
-        "dct:language": [_language(it.tag) for it in languages],
+        "dcat:keyword": [*_say(languages, lambda language: language.speech.t("Consumer price index")), "COICOP 2018"],
+        "dct:language": [_language(language.tag) for language in languages],
         "dct:spatial": {"@type": "dct:Location", "rdfs:label": config.country or config.area},
         "dct:temporal": {
             "@type": "dct:PeriodOfTime",
@@ -295,15 +297,15 @@ def _dataset(series: Series, languages: Sequence[Spoken], files: NewFiles, own: 
             "dcat:endDate": {"@type": "xsd:gYearMonth", "@value": series.every[-1]},
         },
         "dcat:version": name_of(series.last.month, series.last.revision),
-        "dcat:landingPage": [_is(address_of(it.config, "data.html", it.version)) for it in languages],
-        "foaf:page": [_is(address_of(it.config, "method.html", it.version)) for it in languages],
+        "dcat:landingPage": [_is(address_of(language.config, "data.html", language.version)) for language in languages],
+        "foaf:page": [_is(address_of(language.config, "method.html", language.version)) for language in languages],
         "dcat:distribution": [*_distributions(languages, files)],
     }
     if config.doi:
-        found["adms:identifier"] = {"@type": "adms:Identifier", "skos:notation": f"https://doi.org/{config.doi}"}
+        node["adms:identifier"] = {"@type": "adms:Identifier", "skos:notation": f"https://doi.org/{config.doi}"}
     if config.contact:
-        found["dcat:contactPoint"] = _contact(config)
-    return found
+        node["dcat:contactPoint"] = _contact(config)
+    return node
 
 
 def _distributions(languages: Sequence[Spoken], files: NewFiles) -> Iterator[Node]:
@@ -311,10 +313,14 @@ def _distributions(languages: Sequence[Spoken], files: NewFiles) -> Iterator[Nod
     config, folder = languages[0].config, files.folder / "data"
     for name in FILES:
         if (folder / name).is_file() and name != NAME:
-            says = [_text(it.tag, text) for it in languages if (text := file_says(it.speech, it.config)[name])]
+            says = [
+                _text(language.tag, text)
+                for language in languages
+                if (text := file_says(language.speech, language.config)[name])
+            ]
             yield _distribution(config, f"data/{name}", says, files)
     for path in sorted((folder / "years").glob("*.zip"), reverse=True):
-        says = [_text(it.tag, it.speech.t("Earlier years")) for it in languages]
+        says = [_text(language.tag, language.speech.t("Earlier years")) for language in languages]
         yield _distribution(config, f"data/years/{path.name}", says, files)
 
 
@@ -355,7 +361,7 @@ def _text(tag: str, text: str) -> Node:
 
 def _say(languages: Sequence[Spoken], text: Callable[[Spoken], str]) -> list[object]:
     """A text in each language."""
-    return [_text(it.tag, text(it)) for it in languages]
+    return [_text(language.tag, text(language)) for language in languages]
 
 
 def _describes(series: Series) -> Callable[[Spoken], str]:
@@ -377,8 +383,8 @@ def _media_of(name: str) -> str:
     """The media type of a file, by the register of them."""
     if name.endswith(".zip"):
         return "application/zip"
-    found = type_of(name)
-    return OF_SDMX[name.rpartition(".")[2]] if found.startswith("application/vnd.sdmx.") else found
+    media = type_of(name)
+    return OF_SDMX[name.rpartition(".")[2]] if media.startswith("application/vnd.sdmx.") else media
 
 
 def _licence(config: Config) -> Node:
@@ -392,6 +398,6 @@ def _licence(config: Config) -> Node:
 
 def _contact(config: Config) -> Node:
     """The contact for questions; for a text with a mailbox also the mailbox."""
-    found: Node = {"@type": "vcard:Organization", "vcard:fn": config.office, "vcard:note": config.contact}
+    node: Node = {"@type": "vcard:Organization", "vcard:fn": config.office, "vcard:note": config.contact}
     mailbox = MAILBOX.search(config.contact)
-    return {**found, "vcard:hasEmail": _is(f"mailto:{mailbox[0]}")} if mailbox else found
+    return {**node, "vcard:hasEmail": _is(f"mailto:{mailbox[0]}")} if mailbox else node

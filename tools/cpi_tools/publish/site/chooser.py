@@ -96,13 +96,13 @@ contributions to the changes in all items, in percentage points, and the letters
 def script(modules: Sequence[str] = MODULES, others: Mapping[Path, str] = OTHERS) -> str:
     """All modules as one, so that the page costs one request for them; the first are parts of scripts of other pages, such
     as how the site finds items."""
-    found = []
+    script = []
     for path, end in others.items():
         text, is_split, _ = path.read_text(encoding="utf-8").partition(end)
         assert is_split, path
-        found.append(text)
+        script.append(text)
     texts = ((SOURCES / f"{name}.js").read_text(encoding="utf-8") for name in modules)
-    return "\n".join([*found, *(EXPORT.sub("", IMPORT.sub("", text)) for text in texts)])
+    return "\n".join([*script, *(EXPORT.sub("", IMPORT.sub("", text)) for text in texts)])
 
 
 def item_rows(known: Known, notes: Mapping[str, str], code: str) -> list[Sequence[object]]:

@@ -194,28 +194,31 @@ class Columns:
     def text(self, text: str) -> list[dict[str, str]]:
         """A text of the catalogues in each language."""
         period = self._config.reference
-        return [{"@value": it.t(text, period=it.year(period)), "@language": it.language.tag} for it in self._speeches]
+        return [
+            {"@value": speech.t(text, period=speech.year(period)), "@language": speech.language.tag}
+            for speech in self._speeches
+        ]
 
     def schema(self, file: str, head: Sequence[str]) -> dict[str, object]:
         """The columns of a file with a row of names, and its key."""
-        found: dict[str, object] = {"columns": [self._column(file, name) for name in head]}
+        schemas: dict[str, object] = {"columns": [self._column(file, name) for name in head]}
         key = KEYS.get(file, ())
-        return {**found, "primaryKey": [*key]} if key else found
+        return {**schemas, "primaryKey": [*key]} if key else schemas
 
     def _column(self, file: str, name: str) -> dict[str, object]:
         """A column by its name."""
         its_name = "reason" if name.startswith(TRANSLATED) else self._sdmx.get(name, name)
-        it = OTHERS.get(file, {}).get(name) or COLUMNS.get(its_name)
+        column = OTHERS.get(file, {}).get(name) or COLUMNS.get(its_name)
         # (the name of a column has no hyphen there)
-        found: dict[str, object] = {"name": name.replace("-", "_"), "titles": name}
-        if it is None:
-            return {**found, "datatype": STRING}
-        found |= {"datatype": it.datatype, "dc:description": self.text(it.text)}
-        if it.is_needed and name == its_name:
-            found["required"] = True
+        columns: dict[str, object] = {"name": name.replace("-", "_"), "titles": name}
+        if column is None:
+            return {**columns, "datatype": STRING}
+        columns |= {"datatype": column.datatype, "dc:description": self.text(column.text)}
+        if column.is_needed and name == its_name:
+            columns["required"] = True
         if name.startswith(TRANSLATED):
-            found["lang"] = name.removeprefix(TRANSLATED)
-        return {**found, "lang": self._config.language} if name == TITLES else found
+            columns["lang"] = name.removeprefix(TRANSLATED)
+        return {**columns, "lang": self._config.language} if name == TITLES else columns
 
 
 def write_data(columns: Columns, files: NewFiles) -> None:
@@ -224,15 +227,15 @@ def write_data(columns: Columns, files: NewFiles) -> None:
         tables = [_table(columns, folder, path) for path in sorted((files.folder / folder).glob("*.csv"))]
         if tables:
             _write(files, folder, {"tables": tables})
-    tables = [{"url": it.name} for it in sorted((files.folder / "data/tables").glob("*.csv"))]
+    tables = [{"url": path.name} for path in sorted((files.folder / "data/tables").glob("*.csv"))]
     _write(files, "data/tables", {"tableSchema": columns.schema("", TABLES), "tables": tables}, header=False)
 
 
 def _table(columns: Columns, folder: str, path: Path) -> dict[str, object]:
     """A file of a folder of data."""
-    found: dict[str, object] = {"url": path.name, "tableSchema": columns.schema(path.name, head_of(path))}
+    tables: dict[str, object] = {"url": path.name, "tableSchema": columns.schema(path.name, head_of(path))}
     says = FILES.get(f"{folder}/{path.name}".removeprefix("data/"))
-    return {**found, "dc:description": columns.text(says)} if says else found
+    return {**tables, "dc:description": columns.text(says)} if says else tables
 
 
 def write_items(columns: Columns, files: NewFiles, heads: Mapping[str, Sequence[str]]) -> None:

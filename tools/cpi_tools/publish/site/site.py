@@ -161,11 +161,11 @@ class Site:
     def _ways(self, root: str, here: str) -> Markup:
         """The ways from a page to those that all pages lead to, which are the same for thousands of pages."""
         key = root, here if here in SECTIONS else ""
-        found = self._known_ways.get(key)
-        if found is None:
+        way = self._known_ways.get(key)
+        if way is None:
             text = self.pages.get_template("ways.html").render(root=key[0], here=key[1])
-            found = self._known_ways[key] = Markup(text)
-        return found
+            way = self._known_ways[key] = Markup(text)
+        return way
 
     def write(self, items: ItemFiles, report: Report) -> None:
         """All pages, and in the folder of the pack the file next to that of each item; says how many of how many nodes
@@ -225,7 +225,9 @@ class Site:
             sources=self._sources(),
             unexplained=self._list_unexplained(),
             reasons=self._reasons,
-            redefinitions=[(name, found) for name in self.series.specials if (found := self._definitions(name))],
+            redefinitions=[
+                (name, definitions) for name in self.series.specials if (definitions := self._definitions(name))
+            ],
         )
         files = self._files()
         first_year, years = self.recent.series.months[0][:4], self._years()
@@ -306,9 +308,9 @@ class Site:
         """Writes each picture of a node as a file, and the page that other sites embed, which shows the first one if
         its address names none."""
         title, source = self.series.title(code), self._source
-        for it in charts:
-            text = drawing(it, title, source)
-            self.files.write(f"{self.version.folder}picture/{code}-{it.kind}.svg", text.encode())
+        for chart in charts:
+            text = drawing(chart, title, source)
+            self.files.write(f"{self.version.folder}picture/{code}-{chart.kind}.svg", text.encode())
         words = {"code": code, "title": title, "charts": [*charts][::-1], "root": "../"}
         words["top"] = f"../{self.version.up}"
         self._write(f"embed/{page_of(code)}", "embed.html", words)
@@ -422,9 +424,9 @@ class Site:
 
     def _row(self, month: str, code: str) -> Row:
         """The row of a node that has one."""
-        found = self.shown.row(month, code)
-        assert found
-        return found
+        row = self.shown.row(month, code)
+        assert row
+        return row
 
     def _find_hidden(self, code: str) -> dict[str, str]:
         """By month, the figures of the last month that rest on a revision under embargo; of a special aggregate none,
@@ -442,7 +444,7 @@ class Site:
     def _definitions(self, code: str) -> list[GivenReason]:
         """The reasons why the definition of a special aggregate, or figures of quality or of adjusted series,
         changed, in the order in which the office gave them; none for a node."""
-        return [it for of, found in sorted(self._reasons.items()) if of[0] == code for it in found]
+        return [it for of, reason in sorted(self._reasons.items()) if of[0] == code for it in reason]
 
     def _special(self, code: str) -> Optional[Special]:
         """The description of a special aggregate; None for a node."""
@@ -451,7 +453,7 @@ class Site:
     def _marks(self, code: str) -> dict[str, str]:
         """By month with a mark, the sentence about it."""
         speech = self.speech
-        found = {
+        marks = {
             month: speech.t(
                 "Break: from {month} on, {period} = 100. These levels aren't linked to the earlier ones below.",
                 month=speech.month(month),
@@ -463,8 +465,8 @@ class Site:
             it = self.series.specials[code]
             for month in it.changes:
                 now, then = ({*it.members[year]} for year in (month[:4], link_of(month)[:4]))
-                found[month] = self._say_moved(month, now - then, then - now)
-        return found
+                marks[month] = self._say_moved(month, now - then, then - now)
+        return marks
 
     def _say_moved(self, month: str, came: set[str], left: set[str]) -> str:
         """The sentence about a month in which other elementary aggregates belong to a special aggregate."""
@@ -482,13 +484,13 @@ class Site:
     def _link_names(self, names: Sequence[str]) -> Markup:
         """The parts of a special aggregate, each with the way to its page, if it has one."""
         page, code = Markup('<a href="{}">{}</a>'), Markup('<span class="code">{}</span>')
-        found = (
+        pages = (
             page.format(page_of(name), others(self.speech.inner(self.series.title(name))))
             if name in self.series.all_titles
             else code.format(name)
             for name in names
         )
-        return Markup(self.speech.list_texts([*map(str, found)]))
+        return Markup(self.speech.list_texts([*map(str, pages)]))
 
     def _list_unexplained(self) -> list[tuple[str, bool]]:
         return sorted(self.contributions.unexplained)
@@ -498,8 +500,8 @@ class Site:
 
     def _files(self) -> list[tuple[str, int]]:
         """The files of the folder `data` with their sizes in bytes, in the order of their page."""
-        found = [(name, self.pack / "data" / name) for name in FILES]
-        return [(name, it.stat().st_size) for name, it in found if it.is_file()]
+        files = [(name, self.pack / "data" / name) for name in FILES]
+        return [(name, file.stat().st_size) for name, file in files if file.is_file()]
 
     def _series_path(self) -> str:
         """The path of the index of all items, as SDMX-REST has it; empty if the pack has no such paths."""
@@ -510,11 +512,11 @@ class Site:
         """The files of the last changes with their sizes in bytes, the last first."""
         rows = read_manifest(self.pack / MANIFEST).changes[-SHOWN_CHANGES:]
         names = (Path(name) for row in reversed(rows) for name in row.files)
-        return [(it.name, (self.pack / it).stat().st_size) for it in names]
+        return [(name.name, (self.pack / name).stat().st_size) for name in names]
 
     def _years(self) -> list[tuple[str, int]]:
         """The archives of earlier years with their sizes in bytes, the last first."""
-        return [(it.stem, it.stat().st_size) for it in sorted(self.pack.glob("data/years/*.zip"), reverse=True)]
+        return [(path.stem, path.stat().st_size) for path in sorted(self.pack.glob("data/years/*.zip"), reverse=True)]
 
     def _lacking(self) -> list[str]:
         """The nodes that have no level in the whole reference period."""
@@ -537,7 +539,7 @@ class Site:
             for month, chained in zip(self.clause_months, begun + levels)
         ]
         millionths, tenths = (
-            [it and round_ratio(parts * it.over, it.under) for it in found] for parts in (10**6, 10)
+            [level and round_ratio(parts * level.over, level.under) for level in found] for parts in (10**6, 10)
         )
         hundreds = [
             [self.clause_months.index(max(before(month), self.clause_months[0])), self.speech.period(hundred), hundred]
@@ -563,7 +565,7 @@ class Site:
                     for code in self.series.down_to(CLAUSE_DEPTH)
                     if code in rows
                 }
-                exact = {code: self.shown.of_level(it, table.month, code) for code, it in levels.items()}
+                exact = {code: self.shown.of_level(level, table.month, code) for code, level in levels.items()}
                 items = {
                     code: [round_ratio(it.over * by, it.under) for by in (10**6, 10)] for code, it in exact.items()
                 }

@@ -125,12 +125,12 @@ class CorePage:
     def _lines(self) -> list[CoreLine]:
         series, rows = self._known.series, measures_of(self._config.core)
         reasons = given_reasons(self._config.reasons, series, self._config.planned)
-        found = []
+        lines = []
         for name, it in series.core.items():
             of, title = definition_in(rows[name], max(it.rows)), series.name_node(name, it.title)
             why = [reason for key, given in sorted(reasons.items()) if key[0] == name for reason in given]
-            found.append(CoreLine(name, title, it.rows, it.is_share, self._says(of), why))
-        return found
+            lines.append(CoreLine(name, title, it.rows, it.is_share, self._says(of), why))
+        return lines
 
     def _says(self, of: CoreDefinition) -> str:
         """The description of a measure."""
@@ -151,13 +151,13 @@ class CorePage:
             return t("Percentage of elementary aggregates whose prices rise.")
         return t("Percentage of the total weight that belongs to elementary aggregates whose prices rise.")
 
-    def cell(self, it: CoreLine, month: str, is_annual: bool) -> str:
+    def cell(self, core_line: CoreLine, month: str, is_annual: bool) -> str:
         """A figure of a measure as a page shows it."""
-        row = it.rows.get(month)
+        row = core_line.rows.get(month)
         units = None if row is None else row.annual if is_annual else row.monthly
         if units is None:
             return NO_FIGURE
-        return self._speech.percent(tenths(units) if it.is_share else with_sign(tenths(units)))
+        return self._speech.percent(tenths(units) if core_line.is_share else with_sign(tenths(units)))
 
     def all_items(self, month: str, is_annual: bool) -> str:
         """The change in all items next to the measures."""
@@ -200,7 +200,7 @@ class SeasonalPage:
     def _says(self, made_by: Sequence[str]) -> str:
         """The description of a series' adjustment."""
         *words, window = made_by
-        method, software, version, settings = (apart(it, self._speech.language.dir) for it in words)
+        method, software, version, settings = (apart(word, self._speech.language.dir) for word in words)
         return self._speech.tn(
             "{method} with {software} {version} and the settings {settings}. Each new release may revise the last"
             " {count} month.",
@@ -213,14 +213,14 @@ class SeasonalPage:
             settings=settings,
         )
 
-    def level(self, it: SeasonalLine, month: str) -> str:
+    def level(self, seasonal_line: SeasonalLine, month: str) -> str:
         """The adjusted index of a month with one decimal."""
-        row = it.rows.get(month)
+        row = seasonal_line.rows.get(month)
         return NO_FIGURE if row is None else self._speech.figure(points(row.adjusted, 1))
 
-    def change(self, it: SeasonalLine, month: str) -> str:
+    def change(self, seasonal_line: SeasonalLine, month: str) -> str:
         """Its monthly change."""
-        row = it.rows.get(month)
+        row = seasonal_line.rows.get(month)
         units = None if row is None else row.month_change
         return NO_FIGURE if units is None else self._speech.percent(with_sign(tenths(units)))
 
@@ -291,7 +291,7 @@ def find_given(known: Known, month: str) -> Optional[Example]:
     parts = [(it.code, it.to_month) for it in known.contributions.below(month, ALL_ITEMS) if it.to_month is not None]
     if not parts:
         return None
-    code, value = max(parts, key=lambda it: (abs(it[1].over) / it[1].under, it[0]))
+    code, value = max(parts, key=lambda part: (abs(part[1].over) / part[1].under, part[0]))
     now, whole = series.row(month, code), series.row(month, ALL_ITEMS)
     earlier = before(month)
     then, whole_then = (None if month.endswith("-01") else series.row(earlier, it) for it in (code, ALL_ITEMS))
@@ -325,10 +325,15 @@ def own_words_of(words: OwnWords, speech: Speech, versions: Sequence[Version]) -
 
 
 def _list_sections(words: OwnWords, speech: Speech, versions: Sequence[Version], is_first: bool) -> list[ShownSection]:
-    own, others = speech.language.tag, {it.tag: it for it in versions}
+    own, others = speech.language.tag, {version.tag: version for version in versions}
     return [
-        ShownSection(it.section, speech.t(it.section.title), it.html, others.get(it.tag) if it.tag != own else None)
-        for it in words.said_in(own, is_first)
+        ShownSection(
+            statement.section,
+            speech.t(statement.section.title),
+            statement.html,
+            others.get(statement.tag) if statement.tag != own else None,
+        )
+        for statement in words.said_in(own, is_first)
     ]
 
 
@@ -362,7 +367,7 @@ class MonthRows:
             map(self._changes.__getitem__, shown.changes(months, code, is_annual)) for is_annual in (False, True)
         )
         letters = map(self._notes.__getitem__, (notes.get(month, "") for month in months))
-        rows = [f"{it[0]}{''.join(cells)}{it[1]}" for it, *cells in zip(ends, levels, within, *changes, letters)]
+        rows = [f"{end[0]}{''.join(cells)}{end[1]}" for end, *cells in zip(ends, levels, within, *changes, letters)]
         if marks:
             rows = [f"{row}{self._mark(marks[month])}" if month in marks else row for month, row in zip(months, rows)]
         return Markup("\n".join(rows))
@@ -392,8 +397,8 @@ class _Cells(dict[T, str]):
         self._text, self._kind = text, kind
 
     def __missing__(self, value: T) -> str:
-        found = self[value] = f'<td class="{self._kind}">{self._text(value)}</td>'
-        return found
+        text = self[value] = f'<td class="{self._kind}">{self._text(value)}</td>'
+        return text
 
 
 # ==== the part of the website that is about releases: their pages, the calendar, the feed, the map of all pages, and
@@ -439,8 +444,8 @@ class ReleaseSite:
         """The description of the data for other programs, with files by their names and sizes."""
         if not self.config.address:
             return ""
-        found = [(name, size, files.sum_of(f"data/{name}")) for name, size in names]
-        return dataset(self.config, self.series, found, self.speech, self.version)
+        datasets = [(name, size, files.sum_of(f"data/{name}")) for name, size in names]
+        return dataset(self.config, self.series, datasets, self.speech, self.version)
 
     def write(self, pages: jinja2.Environment, pack: Path) -> None:
         """Writes all of it into the folder of a pack that already contains the other pages of the site."""
@@ -469,13 +474,13 @@ class ReleaseSite:
         self, pack: Path, pictures: ReleasePictures, release: Release, rows: Sequence[Given]
     ) -> dict[str, object]:
         """The place of a release's page, its pictures, and its description for other programs."""
-        found: dict[str, object] = self.version.standing("../", f"{release.name}.html", release.page)
-        found.update(pictures.write(release, rows))
-        paragraphs = found["statement"] = self.statements.of(release, rows)
+        releases: dict[str, object] = self.version.standing("../", f"{release.name}.html", release.page)
+        releases.update(pictures.write(release, rows))
+        paragraphs = releases["statement"] = self.statements.of(release, rows)
         write_press_text(pack, self.config, release, paragraphs, self.version)
         if not self.config.address:
-            return found
-        found["dataset"] = release_dataset(self.config, release, self._size(pack, release), self.version)
+            return releases
+        releases["dataset"] = release_dataset(self.config, release, self._size(pack, release), self.version)
         if self.cards.are_written:
-            found.update(card=self.version.folder + release.card, card_says=release.headline)
-        return found
+            releases.update(card=self.version.folder + release.card, card_says=release.headline)
+        return releases

@@ -42,7 +42,7 @@ def write_sites(known: Known, recent: Known, config: Config, shared: Shared, now
     write_data(columns, shared.files)
     if config.address:
         spoken_in = zip(speeches, versions or [ALONE])
-        found = [Spoken(it, config.spoken(it.language.tag), version) for it, version in spoken_in]
+        found = [Spoken(speech, config.spoken(speech.language.tag), version) for speech, version in spoken_in]
         write_catalog(known.series, found, shared.files)
     for speech, version in zip(speeches, versions or [ALONE]):
         tag = speech.language.tag

@@ -60,12 +60,12 @@ def pictures_of(release: Release, rows: Sequence[Given]) -> list[PaperPicture]:
     """The pictures of a release: the change of its headline, the index, and what divisions give if that is known."""
     title = release.shown.series.title(ALL_ITEMS)
     bars = Change(title, release.table.month, release.is_annual, release.shown.speech).of_items(rows)
-    return [_picture(it) for it in (*charts_then(release), *bars)]
+    return [_picture(bar) for bar in (*charts_then(release), *bars)]
 
 
 def _picture(chart: Chart) -> PaperPicture:
-    found = SAYS.search(str(chart.picture))
-    return PaperPicture(chart.name, chart.whole_unit, Markup(found[1] if found else ""), chart)
+    match = SAYS.search(str(chart.picture))
+    return PaperPicture(chart.name, chart.whole_unit, Markup(match[1] if match else ""), chart)
 
 
 def address_of(picture: PaperPicture) -> str:
@@ -117,13 +117,13 @@ def heads_of(speech: Speech) -> list[Markup]:
 def lines_of(release: Release, rows: Sequence[Given]) -> list[Line]:
     """All items, and the divisions of a release in the order of their codes; the rows are what divisions give to the change
     of its headline."""
-    given = {it.code: it.value for it in rows}
+    given = {given_value.code: given_value.value for given_value in rows}
     codes = (code for code in release.as_of.titles if depth_of(code) == 1 and code != ALL_ITEMS)
-    found = [_line(release, ALL_ITEMS, release.whole, lead_of(rows, 0).total if rows else None)]
+    lines = [_line(release, ALL_ITEMS, release.whole, lead_of(rows, 0).total if rows else None)]
     for code in codes:
         if row := release.shown.row(release.table.month, code):
-            found.append(_line(release, code, row, given.get(code)))
-    return found
+            lines.append(_line(release, code, row, given.get(code)))
+    return lines
 
 
 def _line(release: Release, code: str, row: Row, given: Optional[Ratio]) -> Line:
@@ -255,9 +255,9 @@ def with_marks(text: str, direction: str) -> str:
     return FIGURE.sub(FROM_RIGHT, FOREIGN.sub(_mark, text)) if direction == "rtl" else text
 
 
-def _mark(found: re.Match[str]) -> str:
+def _mark(match: re.Match[str]) -> str:
     """Foreign words with their mark."""
-    words = found[0] if len(found[0]) > LONGEST else found[0].replace(" ", "\u00a0")
+    words = match[0] if len(match[0]) > LONGEST else match[0].replace(" ", "\u00a0")
     return f"{FROM_RIGHT}{words}"
 
 
@@ -312,13 +312,13 @@ def on_paper(
     """The release of a month like `2026-01` and a revision, 0 for the latest, in a language; of the last month if none is
     named. With a mark it is a draft. Raises Fault if no such release is among the tables."""
     tags, own = config.speaks.languages or (SOURCE,), config.speaks.own
-    speeches = [_speech_in(config, it) for it in tags]
+    speeches = [_speech_in(config, tag) for tag in tags]
     at = tags.index(tag)
     speech, version = speeches[at], (versions_of(speeches) or [ALONE])[at]
     series = series_of(published, config.specials, config.core).with_titles(own.get(tag, Own()).titles)
     month = month or series.months[-1]
-    named = [it for it in releases_of(series, config.spoken(tag), speech) if it.table.month == month]
-    found = [it for it in named if not revision or it.table.revision == revision]
+    named = [release for release in releases_of(series, config.spoken(tag), speech) if release.table.month == month]
+    found = [release for release in named if not revision or release.table.revision == revision]
     if not found:
         of = f"{month}, revision {revision}" if revision and named else month
         raise Fault(f"there is no release of {of}: the last one is of {series.months[-1]}")

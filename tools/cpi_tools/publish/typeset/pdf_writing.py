@@ -47,18 +47,18 @@ def name_letters(document: Any, pdf: Any) -> None:
 
 def letters_of(font: Any) -> dict[int, str]:
     """By the number of a glyph, the letter that a font of fontTools has it for."""
-    found = dict[int, str]()
+    letters = dict[int, str]()
     for code, name in sorted(font.getBestCmap().items(), reverse=True):
         letter = chr(code)
-        found[font.getGlyphID(name)] = unicodedata.normalize("NFKC", letter) if code in FORMS else letter
-    return found
+        letters[font.getGlyphID(name)] = unicodedata.normalize("NFKC", letter) if code in FORMS else letter
+    return letters
 
 
 def _name_letter(line: Any, letters: dict[int, str]) -> Any:
     """A line of the map with its glyph's letter, if the font has one."""
-    found = GLYPH.fullmatch(line)
-    letter = letters.get(int(found[1], 16)) if found else None
-    return b"<%s> <%s>" % (found[1], letter.encode("utf-16-be").hex().encode()) if found and letter else line
+    match = GLYPH.fullmatch(line)
+    letter = letters.get(int(match[1], 16)) if match else None
+    return b"<%s> <%s>" % (match[1], letter.encode("utf-16-be").hex().encode()) if match and letter else line
 
 
 # ==== The PDFs of a pack's releases. Each says what it is made from, so a pack that is written again takes over those
@@ -107,9 +107,9 @@ def write_pdfs(
 ) -> None:
     """Writes the PDF of each release into the folder of a language in a pack, which is empty or ends with a slash; tells how
     many of how many are written. Raises Fault."""
-    for done, it in enumerate(releases, 1):
-        name = f"{folder}{FOLDER}/{it.name}{END}"
-        if pdf := pdfs.pdf(name, it, paper):
+    for done, release in enumerate(releases, 1):
+        name = f"{folder}{FOLDER}/{release.name}{END}"
+        if pdf := pdfs.pdf(name, release, paper):
             files.write(name, pdf)
         report(done, len(releases))
 

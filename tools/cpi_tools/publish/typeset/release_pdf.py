@@ -62,7 +62,7 @@ def draft_on(cpi: Cpi, frozen_copy: Path, month: str, revision: int) -> DraftRel
     Fault."""
     with private_copy(frozen_copy) as copy, cpi.session(copy) as session:
         listed = listed_in(session.ask(record(LAST_MOMENT, "public", "tables")))
-    moment = next(it.moment for it in listed if (it.month, it.revision) == (month, revision))
+    moment = next(listing.moment for listing in listed if (listing.month, listing.revision) == (month, revision))
     return DraftRelease(from_file(cpi, frozen_copy, moment), month, revision, moment)
 
 
@@ -73,17 +73,17 @@ def draft_of(cpi: Cpi, path: Path, month: int, at: int) -> DraftRelease:
     with private_copy(path) as copy:
         with read_copy(copy) as office:
             state = state_of(office, month)
-            carry = next((it.carry for it in reversed(office.releases()) if it.month == month), ())
+            carry = next((release.carry for release in reversed(office.releases()) if release.month == month), ())
         revision = state.revision
         if not state.is_frozen:
             revision = freeze_on_copy(cpi, copy, state, max(at, state.window.closes), carry).revision
-        found = draft_on(cpi, copy, month_text(month), revision)
-    if state.is_frozen and found.moment <= at:
+        draft = draft_on(cpi, copy, month_text(month), revision)
+    if state.is_frozen and draft.moment <= at:
         raise Fault(
-            f"{found.month}, revision {found.revision}, is out since {time_text(found.moment)}, so there is no draft of it:"
+            f"{draft.month}, revision {draft.revision}, is out since {time_text(draft.moment)}, so there is no draft of it:"
             " leave --draft out"
         )
-    return found
+    return draft
 
 
 # ==== `cpi-tools release-pdf`: a release as two sheets of paper, or before the freeze the draft of one
@@ -141,12 +141,12 @@ def run(chosen: argparse.Namespace) -> int:
     config = read_config(chosen.config, KNOWN_IDS)
     tag = language_in(config, chosen.language)
     with Progress("cpi-tools release-pdf") as progress:
-        found = _draft(chosen, config, tag) if chosen.draft else _read_published(chosen, config, tag, progress)
+        draft = _draft(chosen, config, tag) if chosen.draft else _read_published(chosen, config, tag, progress)
         progress.now("the PDF")
-        pdf = found.paper.pdf(found.release)
+        pdf = draft.paper.pdf(draft.release)
         _write(chosen.out, pdf, chosen.draft)
     is_draft = "draft of " if chosen.draft else ""
-    table = found.release.table
+    table = draft.release.table
     print(f"{chosen.out}: {is_draft}{table.month}, revision {table.revision}, {write_count(sheets_of(pdf), 'page')}")
     return 0
 
@@ -198,7 +198,7 @@ def refuse_place(to: Path, is_draft: bool) -> None:
 
 def _pack_above(to: Path) -> Optional[Path]:
     """The pack that a place is in."""
-    return next((it for it in to.resolve().parents if (it / MANIFEST).exists()), None)
+    return next((parent for parent in to.resolve().parents if (parent / MANIFEST).exists()), None)
 
 
 def _write(to: Path, pdf: bytes, is_draft: bool) -> None:

@@ -66,14 +66,14 @@ def read_spent(path: Path, of: str) -> list[Spent]:
         raise CannotMove(f"{path}: {fault}") from fault
     if not rows or rows[0] not in HEAD:
         raise CannotMove(f"{path}: its first row is neither code,weight nor code,weight,of")
-    found = [_read_spent(path, number, row, of) for number, row in enumerate(rows[1:], 2) if any(row)]
-    codes = [it.code for it in found]
+    expenditures = [_read_spent(path, number, row, of) for number, row in enumerate(rows[1:], 2) if any(row)]
+    codes = [expenditure.code for expenditure in expenditures]
     twice = next((code for at, code in enumerate(codes) if code in codes[:at]), None)
     if twice:
         raise CannotMove(f"{path}: {twice} has two rows")
-    if not any(it.weight for it in found):
+    if not any(expenditure.weight for expenditure in expenditures):
         raise CannotMove(f"{path}: there is no weight above 0")
-    return found
+    return expenditures
 
 
 def _read_spent(path: Path, number: int, row: Sequence[str], of: str) -> Spent:
@@ -93,43 +93,53 @@ def move_weights(series: Series, spent: Sequence[Spent], link: str) -> list[Move
     level in their period, or whose levels aren't linked to December's."""
     if link not in series.months and link != series.base:
         raise CannotMove(f"the table of {link} isn't published")
-    found: dict[str, Optional[tuple[Fraction, Fraction]]] = {it.code: _levels(series, it, link) for it in spent}
-    lacking = [f"{it.code} ({it.of})" for it in spent if found[it.code] is None]
+    found: dict[str, Optional[tuple[Fraction, Fraction]]] = {
+        expenditure.code: _levels(series, expenditure, link) for expenditure in spent
+    }
+    lacking = [f"{expenditure.code} ({expenditure.of})" for expenditure in spent if found[expenditure.code] is None]
     if lacking:
         text = f"{', '.join(lacking[:5])}{f' and {len(lacking) - 5} more' if len(lacking) > 5 else ''}"
         advice = f"give the weight at prices of {link} and write that month in the column of"
         raise CannotMove(f"no published levels lead from its period to {link}: {text}; {advice}")
     levels = {code: pair for code, pair in found.items() if pair}
-    worth = [it.weight * levels[it.code][1] / levels[it.code][0] for it in spent]
-    return [Moved(it, *levels[it.code], value, parts) for it, value, parts in zip(spent, worth, scale_weights(worth))]
+    worth = [expenditure.weight * levels[expenditure.code][1] / levels[expenditure.code][0] for expenditure in spent]
+    return [
+        Moved(expenditure, *levels[expenditure.code], value, parts)
+        for expenditure, value, parts in zip(spent, worth, scale_weights(worth))
+    ]
 
 
-def _levels(series: Series, it: Spent, link: str) -> Optional[tuple[Fraction, Fraction]]:
+def _levels(series: Series, expenditure: Spent, link: str) -> Optional[tuple[Fraction, Fraction]]:
     """The level of an aggregate in its period and in December; None if the two aren't linked. A weight at the prices of
     December itself needs no level."""
-    if it.of == link:
+    if expenditure.of == link:
         return Fraction(100), Fraction(100)
-    then = reference_level(series, it.code, it.of) if it.code in series.titles else None
-    row = series.row(link, it.code)
-    if then is None or row is None or link not in months_linked_to(series, it.code, it.of):
+    then = reference_level(series, expenditure.code, expenditure.of) if expenditure.code in series.titles else None
+    row = series.row(link, expenditure.code)
+    if then is None or row is None or link not in months_linked_to(series, expenditure.code, expenditure.of):
         return None
     return Fraction(*then), Fraction(row.chained, 10**6)
 
 
-def plan_rows(found: Sequence[Moved]) -> Iterator[Sequence[object]]:
+def plan_rows(moved_weights: Sequence[Moved]) -> Iterator[Sequence[object]]:
     """The rows `W` of a plan; a weight of 0 has none."""
-    yield from (("W", it.spent.code, it.parts) for it in found if it.parts)
+    yield from (("W", weight.spent.code, weight.parts) for weight in moved_weights if weight.parts)
 
 
 STEPS_HEAD = ("code", "title", "weight", "of", "level_then", "level_december", "worth_in_december", "parts_per_million")
 
 
-def step_rows(found: Sequence[Moved], titles: Mapping[str, str]) -> Iterator[Sequence[object]]:
+def step_rows(moved_weights: Sequence[Moved], titles: Mapping[str, str]) -> Iterator[Sequence[object]]:
     """Each weight with the figures from which it was computed, with six decimals; levels are in points."""
-    for it in found:
-        numbers = (decimal(*number.as_integer_ratio(), 6) for number in (it.spent.weight, it.then, it.now, it.worth))
+    for moved_weight in moved_weights:
+        numbers = (
+            decimal(*number.as_integer_ratio(), 6)
+            for number in (moved_weight.spent.weight, moved_weight.then, moved_weight.now, moved_weight.worth)
+        )
         weight, *others = numbers
-        yield it.spent.code, titles.get(it.spent.code, ""), weight, it.spent.of, *others, it.parts
+        yield moved_weight.spent.code, titles.get(
+            moved_weight.spent.code, ""
+        ), weight, moved_weight.spent.of, *others, moved_weight.parts
 
 
 # ---- words
@@ -184,11 +194,11 @@ def run(chosen: argparse.Namespace) -> int:
     with Progress("cpi-tools weights") as progress:
         series = Series(read_source(chosen, progress))
     link = f"{int(chosen.year) - 1:04}-12"
-    found = move_weights(series, spent, link)
-    _write(chosen.out, [], plan_rows(found))
+    weights = move_weights(series, spent, link)
+    _write(chosen.out, [], plan_rows(weights))
     if chosen.steps:
-        _write(chosen.steps, [STEPS_HEAD], step_rows(found, series.titles))
-    rows = write_count(sum(1 for it in found if it.parts), "weight")
+        _write(chosen.steps, [STEPS_HEAD], step_rows(weights, series.titles))
+    rows = write_count(sum(1 for weight in weights if weight.parts), "weight")
     print(f"{chosen.out}: {rows} of {chosen.of} at prices of {link}, parts per million")
     return 0
 

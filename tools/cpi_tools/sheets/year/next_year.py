@@ -233,9 +233,17 @@ def lists(now: Now, sample: dict[Series, str]) -> Lists:
     return Lists(leaving, gone_rows(now), few_rows(now, sample, drafted), drafted, slots.renumbered)
 
 
-def _series_cells(now: Now, it: Assignment, code: str) -> Line:
+def _series_cells(now: Now, assignment: Assignment, code: str) -> Line:
     """The cells of a series in the lists."""
-    return it.collector, it.slot, it.outlet, now.outlets[it.outlet], it.item, now.texts[it.item], code
+    return (
+        assignment.collector,
+        assignment.slot,
+        assignment.outlet,
+        now.outlets[assignment.outlet],
+        assignment.item,
+        now.texts[assignment.item],
+        code,
+    )
 
 
 class Slots:
@@ -260,22 +268,20 @@ class Slots:
         return number, self._last[number]
 
 
-def draft_row(it: Assignment, slot: Slot, year: int) -> Line:
+def draft_row(assignment: Assignment, slot: Slot, year: int) -> Line:
     """The same outlet and item in another slot, from December on through the year."""
-    return *slot, it.outlet, it.item, month_text((year - 1) * 100 + 12), month_text(year * 100 + 12)
+    return *slot, assignment.outlet, assignment.item, month_text((year - 1) * 100 + 12), month_text(year * 100 + 12)
 
 
 def gone_rows(now: Now) -> list[Line]:
     """The series that were gone in all of the last months."""
     because = "gone in " + ", ".join(map(month_text, now.months))
     do = "look for another in its place: the draft doesn't have it again"
-    found: list[Line] = []
+    rows: list[Line] = []
     for series in sorted(now.gone):
         it = now.held[series][-1]
-        found.append(
-            (*_series_cells(now, it, now.plan.places.get(it.item, "")), month_text(it.last_month), because, do)
-        )
-    return found
+        rows.append((*_series_cells(now, it, now.plan.places.get(it.item, "")), month_text(it.last_month), because, do))
+    return rows
 
 
 def few_rows(now: Now, sample: dict[Series, str], drafted: Sequence[Line]) -> list[Line]:
@@ -284,7 +290,7 @@ def few_rows(now: Now, sample: dict[Series, str], drafted: Sequence[Line]) -> li
     for series, code in sample.items():
         outlets[code].append(now.held[series][-1].outlet)
     more = Counter(now.plan.places.get(str(row[3]), "") for row in drafted)
-    found: list[Line] = []
+    rows: list[Line] = []
     for code in sorted(now.plan.aggregates()):
         count = len(outlets[code])
         if count < FEW:
@@ -293,16 +299,16 @@ def few_rows(now: Now, sample: dict[Series, str], drafted: Sequence[Line]) -> li
                 if count + more[code] < FEW
                 else "price the draft's in December"
             )
-            found.append((code, now.plan.titles[code], count, len({*outlets[code]}), more[code], do))
-    return found
+            rows.append((code, now.plan.titles[code], count, len({*outlets[code]}), more[code], do))
+    return rows
 
 
 # ---- the files
 
 
-def write_next_year(folder: Path, now: Now, found: Lists) -> None:
+def write_next_year(folder: Path, now: Now, lists: Lists) -> None:
     """Writes the lists, and the draft next to them, into an existing folder."""
-    for name, rows in zip(HEADS, (found.leaving, found.gone, found.few)):
+    for name, rows in zip(HEADS, (lists.leaving, lists.gone, lists.few)):
         write_rows(folder / f"{name}.csv", HEADS[name], rows)
     draft, plan = folder / "draft", now.plan
     draft.mkdir(mode=0o700)
@@ -311,9 +317,9 @@ def write_next_year(folder: Path, now: Now, found: Lists) -> None:
     write_rows(draft / "classification.csv", COLUMNS["classification"], titles)
     write_rows(draft / "places.csv", COLUMNS["places"], ((plan.year, *place) for place in plan.places.items()))
     write_rows(draft / "plans.csv", COLUMNS["plans"], [(plan.year, "")])
-    write_rows(draft / "series.csv", COLUMNS["series"], found.series)
-    if found.renumbered:
-        write_rows(draft / "collectors.csv", ("collector",), ((number,) for number in found.renumbered.values()))
+    write_rows(draft / "series.csv", COLUMNS["series"], lists.series)
+    if lists.renumbered:
+        write_rows(draft / "collectors.csv", ("collector",), ((number,) for number in lists.renumbered.values()))
 
 
 def next_year(cpi: Cpi, file: Path, year: int, folder: Path) -> tuple[Now, Lists]:
@@ -379,15 +385,15 @@ def run(chosen: argparse.Namespace) -> int:
     try:
         with Progress("cpi-tools next-year") as progress:
             progress.now(f"freezing a copy up to {chosen.year}-01")
-            now, found = next_year(Cpi(chosen.program), chosen.file, chosen.year, chosen.folder)
+            now, lists = next_year(Cpi(chosen.program), chosen.file, chosen.year, chosen.folder)
     except OSError as fault:
         raise Fault(because_of(fault)) from fault
     except sqlite3.Error as fault:
         raise Fault(f"{chosen.file} can't be read: {fault}") from fault
-    print(f"leave the sample of {now.plan.year - 1}: {len(found.leaving):,} of {len(now.sample):,} series")
-    print(f"gone in {', '.join(map(month_text, now.months))}: {len(found.gone):,} series")
-    print(f"fewer than {FEW} series in {chosen.year} so far: {write_count(len(found.few), 'aggregate')}")
-    print(f"go on in {chosen.folder / 'draft'}: {len(found.series):,} series")
-    for number, new in found.renumbered.items():
+    print(f"leave the sample of {now.plan.year - 1}: {len(lists.leaving):,} of {len(now.sample):,} series")
+    print(f"gone in {', '.join(map(month_text, now.months))}: {len(lists.gone):,} series")
+    print(f"fewer than {FEW} series in {chosen.year} so far: {write_count(len(lists.few), 'aggregate')}")
+    print(f"go on in {chosen.folder / 'draft'}: {len(lists.series):,} series")
+    for number, new in lists.renumbered.items():
         print(f"collector {number} has no slot left, and is {new} in the draft, with a key that take-in draws")
     return 0
