@@ -41,10 +41,10 @@ def pytest_collection_finish() -> None:
 @pytest.fixture(scope="session")
 def program_file(request: pytest.FixtureRequest) -> str:
     """The file of the program that is tried."""
-    found = os.path.abspath(request.config.option.program or HERE.parent / "crates/cpi/out/cpi")
-    if not os.access(found, os.X_OK):
-        pytest.fail(f"there is no program {found}: --program FILE names it; ./cpi-build builds it", pytrace=False)
-    return found
+    file = os.path.abspath(request.config.option.program or HERE.parent / "crates/cpi/out/cpi")
+    if not os.access(file, os.X_OK):
+        pytest.fail(f"there is no program {file}: --program FILE names it; ./cpi-build builds it", pytrace=False)
+    return file
 
 
 @pytest.fixture(scope="session")

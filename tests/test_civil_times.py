@@ -119,8 +119,8 @@ def moments_of(shown: Time) -> tuple[list[int], int]:
     """The moments at which the clock shows the time, and the one that is meant by it."""
     in_utc = calendar.timegm((*shown, 0))
     offsets = {offset(in_utc + day * 86_400) for day in (-1, 0, 1)}
-    found = sorted(in_utc - each for each in offsets if civil(in_utc - each) == (*shown, 0))
-    return found, found[0] if found else in_utc - min(offsets)
+    utcs = sorted(in_utc - each for each in offsets if civil(in_utc - each) == (*shown, 0))
+    return utcs, utcs[0] if utcs else in_utc - min(offsets)
 
 
 def records_of(price: int, shown: Time, moment: int) -> Iterator[tuple[str, str]]:
@@ -148,7 +148,7 @@ def sent(zone: str) -> Sent:
 @pytest.mark.parametrize("zone", ZONES)
 def test_civil_times(program: Program, zone: str) -> None:
     records, wanted, _ = sent(zone)
-    ran = program.replay("".join(f"{it}\n" for it in records).encode(), None, "--zone", zone)
+    ran = program.replay("".join(f"{record}\n" for record in records).encode(), None, "--zone", zone)
     assert ran.status == 0
     assert first_difference(records, ran.out.decode().split("\n")[:-1], wanted) is None
 

@@ -123,7 +123,7 @@ TABLES = [
 
 def name_of(words: Words) -> str:
     """Words as the name of a test."""
-    return " ".join(it if it and isinstance(it, str) else repr(it) for it in words) or "no words"
+    return " ".join(word if word and isinstance(word, str) else repr(word) for word in words) or "no words"
 
 
 def names_of(pairs: Sequence[tuple[Words, object]]) -> list[str]:

@@ -54,8 +54,8 @@ def content(name: str) -> str:
 def documents() -> Iterator[str]:
     """The names of all documents."""
     for folder, folders, names in os.walk(ROOT):
-        folders[:] = [it for it in folders if it not in ("out", ".git")]
-        yield from (os.path.relpath(os.path.join(folder, it), ROOT) for it in names if it.endswith(".md"))
+        folders[:] = [folder for folder in folders if folder not in ("out", ".git")]
+        yield from (os.path.relpath(os.path.join(folder, name), ROOT) for name in names if name.endswith(".md"))
 
 
 DOCUMENTS = sorted(documents())
@@ -80,7 +80,7 @@ def repository_in(folder: Path) -> Path:
 
 def path_without_cpi() -> str:
     folders = os.environ["PATH"].split(os.pathsep)
-    return os.pathsep.join(it for it in folders if not os.path.exists(os.path.join(it, "cpi")))
+    return os.pathsep.join(folder for folder in folders if not os.path.exists(os.path.join(folder, "cpi")))
 
 
 def ran(commands: str, folder: Path, environment: dict[str, str]) -> Fault:
@@ -132,7 +132,7 @@ LINK = re.compile(r"\]\(([^)\s]+)\)")
 def anchors_of(name: str) -> set[str]:
     """As GitHub makes them of headings."""
     headings = HEADING.findall(FENCED.sub("", content(name)))
-    return {re.sub(r"[^\w -]", "", it.lower()).replace(" ", "-") for it in headings}
+    return {re.sub(r"[^\w -]", "", heading.lower()).replace(" ", "-") for heading in headings}
 
 
 def dead_links(name: str) -> Iterator[str]:

@@ -42,8 +42,8 @@ within x = p
 
 def test_lemmas_are_compared_by_their_statements() -> None:
     """Only `first` and `leads` are one; `within` is a step of a proof in one of the files, and so no lemma there."""
-    found = in_several_files([*lemmas("one", ONE), *lemmas("other", OTHER)])
-    assert [[(it.file, it.name, it.line) for it in lemma] for lemma in found] == [
+    files = in_several_files([*lemmas("one", ONE), *lemmas("other", OTHER)])
+    assert [[(it.file, it.name, it.line) for it in lemma] for lemma in files] == [
         [("one", "first", 3), ("other", "leads", 2)]
     ]
 
@@ -52,7 +52,7 @@ def test_runs_are_as_long_as_they_can_be(tmp_path: Path) -> None:
     """Nine lines are equal, two comments and an import between them don't count, and seven equal lines are no run."""
     same = [f"step_{n}(x)" for n in range(9)]
     one = ["begin(1)", *same[:4], "# one", "import this", *same[4:], "end(1)", *(f"more({n})" for n in range(7))]
-    other = ["begin(2)", *(f"    {it}" for it in same), "", "end(2)", *(f"more({n})" for n in range(7)), "last()"]
+    other = ["begin(2)", *(f"    {text}" for text in same), "", "end(2)", *(f"more({n})" for n in range(7)), "last()"]
     paths = {name: tmp_path / f"{name}.py" for name in ("one", "other")}
     for name, lines in (("one", one), ("other", other)):
         paths[name].write_text("\n".join(lines), encoding="utf-8")

@@ -200,18 +200,18 @@ def marks_of(size: Size) -> list[pytest.MarkDecorator]:
     return [pytest.mark.xdist_group(f"{size.aggregates} aggregates"), *SIZES[size]]
 
 
-ANSWERED = [pytest.param(it, id=f"{it.aggregates} aggregates", marks=marks_of(it)) for it in SIZES]
+ANSWERED = [pytest.param(size, id=f"{size.aggregates} aggregates", marks=marks_of(size)) for size in SIZES]
 MONTHS = [
-    pytest.param(it, turn, id=f"{it.aggregates} aggregates, {month_of(turn)}", marks=marks_of(it))
-    for it in SIZES
-    for turn in range(it.months)
+    pytest.param(size, turn, id=f"{size.aggregates} aggregates, {month_of(turn)}", marks=marks_of(size))
+    for size in SIZES
+    for turn in range(size.months)
 ]
 
 
 @pytest.mark.parametrize("size", ANSWERED)
 def test_nothing_is_refused(compared: Callable[[Size], Compared], size: Size) -> None:
     refused = {
-        record[:60]: found[0] for record, line in compared(size).lines.items() if (found := REFUSED.search(line))
+        record[:60]: match[0] for record, line in compared(size).lines.items() if (match := REFUSED.search(line))
     }
     assert refused == {}
 

@@ -31,7 +31,7 @@ KNOWN = ROOT / "tests/linters/known.txt"
 SHOWN = 5
 """At most so many findings of a file are printed."""
 
-BY_NAME = {it.name: it for it in LINTERS}
+BY_NAME = {linter.name: linter for linter in LINTERS}
 
 
 @pytest.fixture(scope="session")
@@ -69,7 +69,7 @@ def fault_of(found: list[str], known: int) -> Fault:
 def test_a_linter_finds_what_is_known(name: str) -> None:
     files, known = files_of(BY_NAME[name]), known_counts()
     found = BY_NAME[name].found(files)
-    assert fault_in((it, fault_of(found.get(it, []), known.get((name, it), 0))) for it in files) is None
+    assert fault_in((file, fault_of(found.get(file, []), known.get((name, file), 0))) for file in files) is None
 
 
 def test_each_known_finding_is_of_a_file_that_is_there() -> None:

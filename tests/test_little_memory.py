@@ -194,16 +194,16 @@ class Replay(Job):
 
     def stood(self, path: str, records: list[Record], following: Record | None) -> Fault:
         """What is wrong with the rows of the file."""
-        found = sound_rows(path)
-        if not found:
+        rows = sound_rows(path)
+        if not rows:
             return "there are no tables" if records else None
         made = self.rows_of(records)
-        if found == made:
+        if rows == made:
             return None
         if following and following[2] == "import":
-            count = sum(len(found[name]) - len(made[name]) for name in ("quote_2", "assignment_2"))
+            count = sum(len(rows[name]) - len(made[name]) for name in ("quote_2", "assignment_2"))
             following = [*following[:3], text_of(rows_of(following[3])[:count])]
-        if following and found == self.rows_of([*records, following]):
+        if following and rows == self.rows_of([*records, following]):
             return None
         return f"the file doesn't hold what {len(records)} records make of it"
 

@@ -176,9 +176,9 @@ def of_empty_lines(hundred: int) -> Held:
 
 
 INPUTS: dict[str, Callable[[int], Held]] = {
-    **{name: partial(of_a_field, *it) for name, it in PLACES.items()},
+    **{name: partial(of_a_field, *place) for name, place in PLACES.items()},
     "quotation marks": of_marks,
-    **{name: partial(of_a_body, *it) for name, it in BODIES.items()},
+    **{name: partial(of_a_body, *body) for name, body in BODIES.items()},
     "a body of millions of rows": of_rows,
     "a row of 65,536 fields": lambda _: of_fields(65_535),
     "a row of millions of fields": lambda hundred: of_fields(hundred // 20),
@@ -191,16 +191,16 @@ INPUTS: dict[str, Callable[[int], Held]] = {
 @pytest.mark.parametrize("name", INPUTS)
 def test_memory(program: Program, sample: Sample, name: str) -> None:
     """The lines of an input, and the memory that it takes."""
-    it = INPUTS[name](20 * MB * sample.count(SHORT, WHOLE))
+    inputs = INPUTS[name](20 * MB * sample.count(SHORT, WHOLE))
     with begun(program) as going:
-        sender = threading.Thread(target=send, args=(going, it.pieces()))
+        sender = threading.Thread(target=send, args=(going, inputs.pieces()))
         sender.start()
-        lines = b"".join(read(going, it.wanted.count(b"\n")))
+        lines = b"".join(read(going, inputs.wanted.count(b"\n")))
         sender.join()
         took = peak(going)
         ran = going.end()
-    assert Ran(ran.status, lines + ran.out, ran.err) == (0, it.wanted, b"")
-    assert took <= it.most
+    assert Ran(ran.status, lines + ran.out, ran.err) == (0, inputs.wanted, b"")
+    assert took <= inputs.most
 
 
 def test_a_field_without_an_end(program: Program, sample: Sample) -> None:

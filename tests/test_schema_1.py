@@ -130,9 +130,9 @@ def goes_on(program: Program, case: Case, path: str, place: int) -> Fault:
     sent."""
     office, lines = answered(case.given[:place])
     rest = shutil.copy(path, f"{path}.rest")
-    found = listed_otherwise(program, path, office) or told_otherwise(program, path, office, [*frozen_again(office)])
-    if found or stored(path) != rows_of(office):
-        return found or "other rows after the last month was frozen again"
+    goes = listed_otherwise(program, path, office) or told_otherwise(program, path, office, [*frozen_again(office)])
+    if goes or stored(path) != rows_of(office):
+        return goes or "other rows after the last month was frozen again"
     ran = program.replay(case.given[place:], rest)
     return None if ran == (0, b"".join(case.lines[len(lines) :]), b"") else f"the rest of the case: {ran}"
 
@@ -235,9 +235,9 @@ def migrating(program: Program, path: str) -> tuple[bytes, bytes]:
     with program.begin("replay", "--db", path) as going:
         going.send(QUOTE)
         going.line()
-        found = content(path + "-wal"), content(path)
+        contents = content(path + "-wal"), content(path)
         going.end()
-    return found
+    return contents
 
 
 def parts_of(program: Program, path: str) -> tuple[list[tuple[bytes, bytes]], list[tuple[bytes, bytes]]]:

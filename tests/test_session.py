@@ -127,7 +127,7 @@ def numbers(folder: Path, *words: str) -> list[int]:
     """The numbers of the tests that such a run takes."""
     status, lines = ran(folder, "-rP", *words, a=SAMPLED)
     assert status == 0
-    return sorted(int(it) for line in lines for it in re.findall(r"^number (\d+)\.$", line))
+    return sorted(int(element) for line in lines for element in re.findall(r"^number (\d+)\.$", line))
 
 
 def test_samples(tmp_path: Path) -> None:
@@ -143,5 +143,5 @@ def test_a_drawn_seed_is_printed(tmp_path: Path) -> None:
     """The first line has it, and it is the same in each process."""
     _, lines = ran(tmp_path, "-rP", "-n", "3", a=SAMPLED)
     (seed,) = re.findall(r"^a short run: --seed (\d+) takes the same sample$", lines[0])
-    drawn = sorted(int(it) for line in lines for it in re.findall(r"^number (\d+)\.$", line))
+    drawn = sorted(int(element) for line in lines for element in re.findall(r"^number (\d+)\.$", line))
     assert numbers(tmp_path, "--seed", seed) == drawn

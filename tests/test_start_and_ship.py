@@ -36,125 +36,133 @@ Seen = tuple[str, bool]
 # ---- starting what is shipped
 
 
-def a_fresh_clone(it: Repository) -> Iterator[Seen]:
-    it.ship()
-    first, second = it.answers(), it.answers()
+def a_fresh_clone(repository: Repository) -> Iterator[Seen]:
+    repository.ship()
+    first, second = repository.answers(), repository.answers()
     yield "words, standard input and status are handed on, and nothing else is said", first == SHIPPED
     yield "so they are once more", second == SHIPPED
-    (it.room / "tools/cpi").symlink_to(it.top / "cpi")
-    yield "it runs by a link, from another folder", it.run(f"{it.room}/tools/cpi", cwd="/").status == 7
-    yield "rt wasn't called", it.told() == []
-    yield "out/ has no copy of it, only when it was looked at", it.kept() == ["current"]
-    it.run("cpi-build", "--lanes", "1")
-    built = it.out / it.sources()
-    yield "what was built of the same sources is run before it", it.run("cpi").out.startswith("low as it was")
+    (repository.room / "tools/cpi").symlink_to(repository.top / "cpi")
+    yield "it runs by a link, from another folder", repository.run(f"{repository.room}/tools/cpi", cwd="/").status == 7
+    yield "rt wasn't called", repository.told() == []
+    yield "out/ has no copy of it, only when it was looked at", repository.kept() == ["current"]
+    repository.run("cpi-build", "--lanes", "1")
+    built = repository.out / repository.sources()
+    yield "what was built of the same sources is run before it", repository.run("cpi").out.startswith("low as it was")
     shutil.rmtree(built)
-    yield "without that, it is run again", it.answers() == SHIPPED
-    it.run("cpi-build", "--lanes", "1")
-    yield "and what is built then, though no source changed", built.exists() and it.run("cpi").out.startswith("low as")
+    yield "without that, it is run again", repository.answers() == SHIPPED
+    repository.run("cpi-build", "--lanes", "1")
+    yield "and what is built then, though no source changed", built.exists() and repository.run("cpi").out.startswith(
+        "low as"
+    )
 
 
-def sources_that_did_not_change(it: Repository) -> Iterator[Seen]:
-    it.ship()
-    it.answers()
-    before = (it.out / "current").stat().st_mtime_ns
-    it.write("low", "low as it was")
-    put(it.crates / "low/out/rlib/any", "")
-    yield "the same text, written again, is the same", it.answers() == SHIPPED
-    seen = (it.out / "current").stat().st_mtime_ns
+def sources_that_did_not_change(repository: Repository) -> Iterator[Seen]:
+    repository.ship()
+    repository.answers()
+    before = (repository.out / "current").stat().st_mtime_ns
+    repository.write("low", "low as it was")
+    put(repository.crates / "low/out/rlib/any", "")
+    yield "the same text, written again, is the same", repository.answers() == SHIPPED
+    seen = (repository.out / "current").stat().st_mtime_ns
     yield "it was looked at, and the time noted", seen > before
-    yield "then the times alone are", it.answers() == SHIPPED and (it.out / "current").stat().st_mtime_ns == seen
-    yield "rt wasn't called", it.told() == []
+    yield "then the times alone are", repository.answers() == SHIPPED and (
+        repository.out / "current"
+    ).stat().st_mtime_ns == seen
+    yield "rt wasn't called", repository.told() == []
 
 
-def many_at_once(it: Repository) -> Iterator[Seen]:
-    it.ship()
-    running = [it.start("cpi", "a b", "", "*") for _ in range(8)]
+def many_at_once(repository: Repository) -> Iterator[Seen]:
+    repository.ship()
+    running = [repository.start("cpi", "a b", "", "*") for _ in range(8)]
     outs = [each.communicate(b"input", timeout=60)[0].decode() for each in running]
     yield "each answers", outs == [SHIPPED.out] * 8
-    yield "nothing is left of them but when they looked", it.kept() == ["current"]
+    yield "nothing is left of them but when they looked", repository.kept() == ["current"]
 
 
-def damage(it: Repository) -> Iterator[Seen]:
-    it.ship()
-    yield "a whole program", it.answers() == SHIPPED
-    it.shipped.write_bytes(it.shipped.read_bytes()[:-20])
-    yield "one that is cut, after it ran", it.answers().is_refused("isn't the program")
-    it.ship(program="0")
-    yield "another program", it.answers().is_refused("isn't the program")
-    it.shipped.unlink()
-    yield "no file", it.answers().is_refused("there is no dist/cpi")
-    it.ship()
-    it.shipped.chmod(0o644)
-    yield "a program that a copy made a plain file", it.answers().is_refused("chmod +x dist/cpi")
-    it.shipped.chmod(0o755)
-    yield "it runs again once it is executable", it.answers() == SHIPPED
-    (it.out / "current").unlink()
+def damage(repository: Repository) -> Iterator[Seen]:
+    repository.ship()
+    yield "a whole program", repository.answers() == SHIPPED
+    repository.shipped.write_bytes(repository.shipped.read_bytes()[:-20])
+    yield "one that is cut, after it ran", repository.answers().is_refused("isn't the program")
+    repository.ship(program="0")
+    yield "another program", repository.answers().is_refused("isn't the program")
+    repository.shipped.unlink()
+    yield "no file", repository.answers().is_refused("there is no dist/cpi")
+    repository.ship()
+    repository.shipped.chmod(0o644)
+    yield "a program that a copy made a plain file", repository.answers().is_refused("chmod +x dist/cpi")
+    repository.shipped.chmod(0o755)
+    yield "it runs again once it is executable", repository.answers() == SHIPPED
+    (repository.out / "current").unlink()
     for name in ("sources", "program", "machine", "needs"):
-        it.ship()
-        put(it.made, re.sub(f"^{name}: .*\n", "", it.made.read_text(), flags=re.M))
-        yield f"MADE without a line {name}", it.answers().is_refused(f"no line '{name}'")
-    yield "rt wasn't called, and nothing is left", it.told() == [] and it.kept() == []
+        repository.ship()
+        put(repository.made, re.sub(f"^{name}: .*\n", "", repository.made.read_text(), flags=re.M))
+        yield f"MADE without a line {name}", repository.answers().is_refused(f"no line '{name}'")
+    yield "rt wasn't called, and nothing is left", repository.told() == [] and repository.kept() == []
 
 
-def a_checkout_that_can_not_be_written(it: Repository) -> Iterator[Seen]:
-    it.ship()
-    put(it.room / "home/file", "")
-    (it.room / "home").chmod(0o777)
-    subprocess.run(["chmod", "-R", "a-w", it.top], check=True)
+def a_checkout_that_can_not_be_written(repository: Repository) -> Iterator[Seen]:
+    repository.ship()
+    put(repository.room / "home/file", "")
+    (repository.room / "home").chmod(0o777)
+    subprocess.run(["chmod", "-R", "a-w", repository.top], check=True)
     # (whoever may write everywhere becomes nobody)
     how = {"user": 65534, "group": 65534, "extra_groups": []} if os.geteuid() == 0 else {}
-    nowhere = {**it.environment, "HOME": f"{it.top}/home"}
-    yield "it runs where nothing can be noted", [it.answers(env=nowhere, **how) for _ in range(2)] == [SHIPPED] * 2
-    noted = it.room / "home/.cache/sabrethog"
-    yield "nothing was", not it.out.exists() and not noted.exists()
-    yield "it runs where the user's cache can be written", it.answers(**how) == SHIPPED
+    nowhere = {**repository.environment, "HOME": f"{repository.top}/home"}
+    yield "it runs where nothing can be noted", [repository.answers(env=nowhere, **how) for _ in range(2)] == [
+        SHIPPED
+    ] * 2
+    noted = repository.room / "home/.cache/sabrethog"
+    yield "nothing was", not repository.out.exists() and not noted.exists()
+    yield "it runs where the user's cache can be written", repository.answers(**how) == SHIPPED
     (current,) = (path for path in noted.rglob("*") if path.is_file())
     seen = current.stat().st_mtime_ns
-    yield "there it is noted, once", it.answers(**how) == SHIPPED and current.stat().st_mtime_ns == seen
-    subprocess.run(["chmod", "-R", "u+w", it.top], check=True)
-    it.write("low", "low as it is")
-    put(it.out, "no folder")
-    yield "nothing is built there", it.answers().is_refused("other sources", "can't be written")
-    yield "./cpi-build says so too", it.run("cpi-build").is_refused("out")
+    yield "there it is noted, once", repository.answers(**how) == SHIPPED and current.stat().st_mtime_ns == seen
+    subprocess.run(["chmod", "-R", "u+w", repository.top], check=True)
+    repository.write("low", "low as it is")
+    put(repository.out, "no folder")
+    yield "nothing is built there", repository.answers().is_refused("other sources", "can't be written")
+    yield "./cpi-build says so too", repository.run("cpi-build").is_refused("out")
 
 
 # ---- building
 
 
-def sources_that_changed(it: Repository) -> Iterator[Seen]:
-    it.ship()
-    it.answers()
-    it.write("low", "low as it is")
-    ran, told = it.run("cpi"), it.told()
+def sources_that_changed(repository: Repository) -> Iterator[Seen]:
+    repository.ship()
+    repository.answers()
+    repository.write("low", "low as it is")
+    ran, told = repository.run("cpi"), repository.told()
     yield "they are built and run", ran[:2] == BUILT[:2] and "other sources" in ran.lines()[0]
     did = [f"{did} {crate}" for did in ("begins", "built") for crate in ("cpi", "left", "low", "right")]
     yield "each crate of the program, once", sorted(told) == did
     words = ("cpi (4 of 4) begins", "right is built, in 0.0 minutes; at minute 0, about ", " minutes to go")
     yield "it tells which crate of how many, and the minutes", all(each in ran.err for each in words)
-    yield "the next call starts it at once", it.run("cpi") == BUILT and it.told() == []
-    it.write("left", "more", "new file")
-    yield "a new file is a source", it.run("cpi")[:2] == BUILT[:2] and "built left" in it.told()
-    (it.crates / "left/src/new file").unlink()
-    it.write("low", "low as it was")
-    yield "with the sources of dist/ its program runs again", it.answers() == SHIPPED and it.told() == []
-    yield "programs of other sources are removed", it.kept() == ["current"]
+    yield "the next call starts it at once", repository.run("cpi") == BUILT and repository.told() == []
+    repository.write("left", "more", "new file")
+    yield "a new file is a source", repository.run("cpi")[:2] == BUILT[:2] and "built left" in repository.told()
+    (repository.crates / "left/src/new file").unlink()
+    repository.write("low", "low as it was")
+    yield "with the sources of dist/ its program runs again", repository.answers() == SHIPPED and repository.told() == []
+    yield "programs of other sources are removed", repository.kept() == ["current"]
 
 
-def programs_of_no_use(it: Repository) -> Iterator[Seen]:
+def programs_of_no_use(repository: Repository) -> Iterator[Seen]:
     cases: dict[str, Callable[[], object]] = {
         "there is no program in dist/": lambda: None,
-        "is for vax": lambda: it.ship(machine="vax"),
-        "doesn't start here (it needs libc.so.6 GLIBC_2.34)": lambda: it.ship(b"#!/no/such/loader\n"),
-        "dist/ was made of other sources": lambda: it.ship(sources="0"),
+        "is for vax": lambda: repository.ship(machine="vax"),
+        "doesn't start here (it needs libc.so.6 GLIBC_2.34)": lambda: repository.ship(b"#!/no/such/loader\n"),
+        "dist/ was made of other sources": lambda: repository.ship(sources="0"),
     }
     for why, make in cases.items():
         make()
-        yield f"{why}: without rt there is one line", it.run("cpi", env=it.no_rt).is_refused(why, "without rt")
-        ran = it.run("cpi")
+        yield f"{why}: without rt there is one line", repository.run("cpi", env=repository.no_rt).is_refused(
+            why, "without rt"
+        )
+        ran = repository.run("cpi")
         yield f"{why}: it is built", ran.out.startswith("low as it was") and why in ran.lines()[0]
-        shutil.rmtree(it.out)
-    yield "./cpi-build wants rt too", it.run("cpi-build", env=it.no_rt).is_refused("no rt")
+        shutil.rmtree(repository.out)
+    yield "./cpi-build wants rt too", repository.run("cpi-build", env=repository.no_rt).is_refused("no rt")
 
 
 def within_seconds(is_so: Callable[[], bool]) -> bool:
@@ -165,9 +173,9 @@ def within_seconds(is_so: Callable[[], bool]) -> bool:
     return False
 
 
-def is_free(it: Repository) -> bool:
+def is_free(repository: Repository) -> bool:
     """Whether nothing that a build began holds its lock any more."""
-    with open(it.out / "lock", encoding="utf-8") as lock:
+    with open(repository.out / "lock", encoding="utf-8") as lock:
         try:
             fcntl.flock(lock, fcntl.LOCK_EX | fcntl.LOCK_NB)
             return True
@@ -175,12 +183,12 @@ def is_free(it: Repository) -> bool:
             return False
 
 
-def broken_off(it: Repository, number: int) -> Iterator[Seen]:
-    it.write("left", "slow")
-    it.write("right", "slow")
-    running = it.start("cpi-build", "--lanes", "2", start_new_session=True)
-    both = within_seconds(lambda: len([*it.top.parent.glob("*/crates/*/out/waited")]) == 2)
-    yield "two are built side by side, one in a copy", both and it.copies() == 1
+def broken_off(repository: Repository, number: int) -> Iterator[Seen]:
+    repository.write("left", "slow")
+    repository.write("right", "slow")
+    running = repository.start("cpi-build", "--lanes", "2", start_new_session=True)
+    both = within_seconds(lambda: len([*repository.top.parent.glob("*/crates/*/out/waited")]) == 2)
+    yield "two are built side by side, one in a copy", both and repository.copies() == 1
     if number == signal.SIGKILL:
         os.killpg(running.pid, number)
         running.communicate(timeout=20)
@@ -188,82 +196,86 @@ def broken_off(it: Repository, number: int) -> Iterator[Seen]:
         running.send_signal(number)
         last = running.communicate(timeout=20)[1].decode().splitlines()[-1]
         yield "the last line says what is next", running.returncode == 1 and "goes on where this one was" in last
-        yield "no copy and no process is left", it.copies() == 0 and within_seconds(lambda: is_free(it))
-    it.told()
-    ran, told = it.run("cpi-build", "--lanes", "2"), it.told()
+        yield "no copy and no process is left", repository.copies() == 0 and within_seconds(lambda: is_free(repository))
+    repository.told()
+    ran, told = repository.run("cpi-build", "--lanes", "2"), repository.told()
     yield "the next goes on where it was", ran.status == 0 and "same low" in told and "built cpi" in told
-    yield "it leaves no copy", it.copies() == 0 and not any(line.startswith("locked") for line in told)
+    yield "it leaves no copy", repository.copies() == 0 and not any(line.startswith("locked") for line in told)
 
 
-def lanes(it: Repository) -> Iterator[Seen]:
+def lanes(repository: Repository) -> Iterator[Seen]:
     for count in ("1", "2"):
-        for folder in it.crates.glob("*/out"):
+        for folder in repository.crates.glob("*/out"):
             shutil.rmtree(folder)
         for side in ("left", "right"):
-            it.write(side, "meeting" if count == "2" else "")
-        ran, told = it.run("cpi-build", "--lanes", count, "--jobs", "4"), it.told()
-        yield f"{count}: all is built, here", ran.status == 0 and len([*it.crates.glob("*/out/rlib/stamp")]) == 4
+            repository.write(side, "meeting" if count == "2" else "")
+        ran, told = repository.run("cpi-build", "--lanes", count, "--jobs", "4"), repository.told()
+        yield f"{count}: all is built, here", ran.status == 0 and len(
+            [*repository.crates.glob("*/out/rlib/stamp")]
+        ) == 4
         yield f"{count}: the jobs are shared", ("with 2 jobs" in ran.err) == (count == "2")
         is_beside = sorted(told[2:4]) == ["begins left", "begins right"]
         yield f"{count}: side by side", is_beside == (count == "2") and len(told) == 8
-    again = it.run("cpi-build", "--lanes", "2")
-    yield "once more is a look", again.status == 0 and not any(line.startswith("built") for line in it.told())
-    (it.crates / "link").symlink_to("nowhere")
-    ran = it.run("cpi-build", "--lanes", "2")
+    again = repository.run("cpi-build", "--lanes", "2")
+    yield "once more is a look", again.status == 0 and not any(line.startswith("built") for line in repository.told())
+    (repository.crates / "link").symlink_to("nowhere")
+    ran = repository.run("cpi-build", "--lanes", "2")
     yield "where no copy can be made there is one lane", ran.status == 0 and "one crate at a time" in ran.err
-    yield "--help tells", it.run("cpi-build", "--help").status == 0 and it.run("cpi-build", "--jobs", "0").status == 2
+    yield "--help tells", repository.run("cpi-build", "--help").status == 0 and repository.run(
+        "cpi-build", "--jobs", "0"
+    ).status == 2
 
 
-def proofs_that_fail(it: Repository) -> Iterator[Seen]:
-    it.write("right", "wrong")
-    ran = it.run("cpi")
+def proofs_that_fail(repository: Repository) -> Iterator[Seen]:
+    repository.write("right", "wrong")
+    ran = repository.run("cpi")
     yield "the log is printed, and nothing runs", ran[:2] == (1, "") and "fn right::f: not proved" in ran.lines()
     yield "the last line names the crate", "right isn't proved" in ran.lines()[-1]
-    it.write("right", "right")
-    it.told()
-    yield "what was built stays", it.run("cpi").status == 7 and "same low" in it.told()
-    it.write("cpi", "moving")
-    ran = it.run("cpi")
+    repository.write("right", "right")
+    repository.told()
+    yield "what was built stays", repository.run("cpi").status == 7 and "same low" in repository.told()
+    repository.write("cpi", "moving")
+    ran = repository.run("cpi")
     yield "sources that change meanwhile are told", ran[:2] == (1, "") and "changed" in ran.lines()[-1]
-    put(it.top / "crates.txt", "cpi: low\nlow: cpi\n")
-    yield "a circle of crates is told", it.run("cpi-build").is_refused("below itself")
-    put(it.top / "crates.txt", "low:\n")
-    yield "no crate cpi is told", it.run("cpi-build").is_refused("no crate cpi")
+    put(repository.top / "crates.txt", "cpi: low\nlow: cpi\n")
+    yield "a circle of crates is told", repository.run("cpi-build").is_refused("below itself")
+    put(repository.top / "crates.txt", "low:\n")
+    yield "no crate cpi is told", repository.run("cpi-build").is_refused("no crate cpi")
 
 
 # ---- sums, shipping and comparing
 
 
-def sums(it: Repository) -> Iterator[Seen]:
+def sums(repository: Repository) -> Iterator[Seen]:
     for name in ("B", "a", "\u00e4", "two words", "two\nlines", "-n"):
-        it.write("low", name, name)
-    first = it.sources()
+        repository.write("low", name, name)
+    first = repository.sources()
     yield "it is a SHA-256", bool(re.fullmatch("[0-9a-f]{64}", first))
-    shutil.copytree(it.top, it.room / "other")
-    yield "the same in another folder", it.run(f"{it.room}/other/tools/sources").out == f"{first}\n"
-    locales = [{**it.environment, "LC_ALL": to} for to in ("C.UTF-8", "en_US.UTF-8")]
-    yield "the same by other locales", {it.sources(env=each) for each in locales} == {first}
-    put(it.crates / "low/out/any", "")
-    put(it.top / "README.md", "")
-    yield "what isn't a source doesn't count", it.sources() == first
+    shutil.copytree(repository.top, repository.room / "other")
+    yield "the same in another folder", repository.run(f"{repository.room}/other/tools/sources").out == f"{first}\n"
+    locales = [{**repository.environment, "LC_ALL": to} for to in ("C.UTF-8", "en_US.UTF-8")]
+    yield "the same by other locales", {repository.sources(env=each) for each in locales} == {first}
+    put(repository.crates / "low/out/any", "")
+    put(repository.top / "README.md", "")
+    yield "what isn't a source doesn't count", repository.sources() == first
     changes: list[Callable[[], object]] = [
-        lambda: put(it.top / "HANDLES", ""),
-        lambda: put(it.top / "crates.txt", f"{CRATES}\n"),
-        lambda: it.write("low", "other", "two\nlines"),
-        lambda: (it.crates / "low/src/B").rename(it.crates / "low/src/C"),
-        lambda: it.write("left", "", "empty"),
+        lambda: put(repository.top / "HANDLES", ""),
+        lambda: put(repository.top / "crates.txt", f"{CRATES}\n"),
+        lambda: repository.write("low", "other", "two\nlines"),
+        lambda: (repository.crates / "low/src/B").rename(repository.crates / "low/src/C"),
+        lambda: repository.write("left", "", "empty"),
     ]
-    found = [first, *(it.sources() for change in changes if [change()])]
-    yield "each change is another sum", len(set(found)) == 6
+    sources = [first, *(repository.sources() for change in changes if [change()])]
+    yield "each change is another sum", len(set(sources)) == 6
 
 
 # ---- the parts of ./test
 
 
-def begin_test(it: Repository) -> None:
+def begin_test(repository: Repository) -> None:
     """Makes stand-ins of the parts of ./test that pass: so many tests each, beside the gate's two."""
-    it.stand_in("tests/run", "10 passed, 0 failed")
-    it.stand_in("tools/refused", "3 passed, 0 failed")
+    repository.stand_in("tests/run", "10 passed, 0 failed")
+    repository.stand_in("tools/refused", "3 passed, 0 failed")
 
 
 PASSED = 2 + 3 + 10 + 10
@@ -277,144 +289,146 @@ FAULTS = [
 ]
 
 
-def parts_that_fail(it: Repository) -> Iterator[Seen]:
-    begin_test(it)
-    yield "nothing is shipped without a test", "wasn't green" in it.run("tools/dist").err
+def parts_that_fail(repository: Repository) -> Iterator[Seen]:
+    begin_test(repository)
+    yield "nothing is shipped without a test", "wasn't green" in repository.run("tools/dist").err
     for how, last, status, passed in FAULTS:
-        it.stand_in("tools/refused", last, status)
-        ran, whole = it.run("test"), PASSED - 3 + passed
+        repository.stand_in("tools/refused", last, status)
+        ran, whole = repository.run("test"), PASSED - 3 + passed
         yield f"edits {how} fail it all", ran.status == 1 and ran.out.endswith(f"{whole} passed, 1 failed\n")
-        yield f"nothing is shipped after edits {how}", "wasn't green" in it.run("tools/dist").err and it.kept() == []
-    begin_test(it)
+        yield f"nothing is shipped after edits {how}", "wasn't green" in repository.run(
+            "tools/dist"
+        ).err and repository.kept() == []
+    begin_test(repository)
     for how, last, status, passed in FAULTS:
         # (the last part is run by the same script, so it fails too)
-        it.stand_in("tests/run", last, status)
-        ran, whole = it.run("test"), PASSED - 20 + 2 * passed
+        repository.stand_in("tests/run", last, status)
+        ran, whole = repository.run("test"), PASSED - 20 + 2 * passed
         yield f"tests {how} fail it all", ran.status == 1 and ran.out.endswith(f"{whole} passed, 2 failed\n")
 
 
-def a_gate_that_fails(it: Repository) -> Iterator[Seen]:
-    begin_test(it)
-    it.write("low", "low is stuck")
-    ran = it.run("test")
+def a_gate_that_fails(repository: Repository) -> Iterator[Seen]:
+    begin_test(repository)
+    repository.write("low", "low is stuck")
+    ran = repository.run("test")
     yield "no edit counts as refused", "the gate failed, so no edit counts as refused" in ran.out
-    yield "there is no program to try", "there is no program" in ran.out and it.calls("tests/run")[:-1] == []
+    yield "there is no program to try", "there is no program" in ran.out and repository.calls("tests/run")[:-1] == []
     yield "each of them is a failure", ran.status == 1 and ran.out.endswith("10 passed, 3 failed\n")
 
 
-def a_copy_for_the_gate(it: Repository) -> Iterator[Seen]:
-    begin_test(it)
-    put(it.crates / "low/must-fail/one.edit", "file: src/lib.rt\n")
-    put(it.crates / "low/must-not-compile/two.edit", "file: src/lib.rt\n")
-    put(it.crates / "low/out/incremental/kept", "by a check")
-    it.run("test")
-    seen = (it.room / "gate").read_text().splitlines()
+def a_copy_for_the_gate(repository: Repository) -> Iterator[Seen]:
+    begin_test(repository)
+    put(repository.crates / "low/must-fail/one.edit", "file: src/lib.rt\n")
+    put(repository.crates / "low/must-not-compile/two.edit", "file: src/lib.rt\n")
+    put(repository.crates / "low/out/incremental/kept", "by a check")
+    repository.run("test")
+    seen = (repository.room / "gate").read_text().splitlines()
     yield "the gate sees the sources", "crates/low/src/lib.rt" in seen and "HANDLES" in seen
     yield "and no edit, and nothing that was built", not any("must-" in each or "/out" in each for each in seen)
-    yield "the edits stay where they are", (it.crates / "low/must-fail/one.edit").exists()
-    yield "what was built is here", (it.crates / "cpi/out/cpi").exists()
-    yield "what a check keeps stays", (it.crates / "low/out/incremental/kept").read_text() == "by a check"
-    left = [each.name for each in (it.room / "temporary").iterdir()]
+    yield "the edits stay where they are", (repository.crates / "low/must-fail/one.edit").exists()
+    yield "what was built is here", (repository.crates / "cpi/out/cpi").exists()
+    yield "what a check keeps stays", (repository.crates / "low/out/incremental/kept").read_text() == "by a check"
+    left = [each.name for each in (repository.room / "temporary").iterdir()]
     yield "no copy is left", left == []
 
 
-def edits_beside_the_gate(it: Repository) -> Iterator[Seen]:
-    begin_test(it)
-    waits = it.room / "calls/waits"
+def edits_beside_the_gate(repository: Repository) -> Iterator[Seen]:
+    begin_test(repository)
+    waits = repository.room / "calls/waits"
     put(waits, "")
-    library = it.crates / "low/out/rlib/low.rlib/format"
+    library = repository.crates / "low/out/rlib/low.rlib/format"
     lines = ["until [ -e out/proved/low ]; do sleep 0.1; done", f"cat '{library}'", f"rm '{waits}'"]
     lines += ["[ -e out/proved/.ended ] || echo the gate goes on", "echo 3 passed, 0 failed"]
-    put(it.top / "tools/refused", "\n".join(["#!/bin/sh", *lines, ""]), 0o755)
-    it.ship()
-    ran = it.run("test")
+    put(repository.top / "tools/refused", "\n".join(["#!/bin/sh", *lines, ""]), 0o755)
+    repository.ship()
+    ran = repository.run("test")
     seen = [line[len("refused edits | ") :] for line in ran.out.splitlines() if line.startswith("refused edits | ")]
     yield "the library of a crate is there once it is proved", seen[:2] == ["built", "the gate goes on"]
-    yield "the gate ends after that", ran.status == 0 and (it.out / "proved/.ended").exists()
+    yield "the gate ends after that", ran.status == 0 and (repository.out / "proved/.ended").exists()
 
 
-def edits_beside_the_tests(it: Repository) -> Iterator[Seen]:
-    begin_test(it)
-    begun, last = it.room / "calls/begun", "echo 3 passed, 0 failed"
+def edits_beside_the_tests(repository: Repository) -> Iterator[Seen]:
+    begin_test(repository)
+    begun, last = repository.room / "calls/begun", "echo 3 passed, 0 failed"
     waits = f"n=0; until [ -e '{begun}' ] || [ $n = 300 ]; do sleep 0.1; n=$((n + 1)); done"
-    put(it.top / "tools/refused", "\n".join(["#!/bin/sh", f"touch '{begun}'", last, ""]), 0o755)
+    put(repository.top / "tools/refused", "\n".join(["#!/bin/sh", f"touch '{begun}'", last, ""]), 0o755)
     tried = f"[ ! -e '{begun}' ] || echo the edits have begun"
-    put(it.top / "tests/run", "\n".join(["#!/bin/sh", waits, tried, last, ""]), 0o755)
-    it.ship()
-    ran = it.run("test")
+    put(repository.top / "tests/run", "\n".join(["#!/bin/sh", waits, tried, last, ""]), 0o755)
+    repository.ship()
+    ran = repository.run("test")
     yield "they begin when the gate ends", "tests | the edits have begun" in ran.out.splitlines() and ran.status == 0
 
 
-def which_goes_first(it: Repository) -> Iterator[Seen]:
+def which_goes_first(repository: Repository) -> Iterator[Seen]:
     """Field 19 of /proc/PID/stat is the niceness of a process."""
-    begin_test(it)
+    begin_test(repository)
     own = os.getpriority(os.PRIO_PROCESS, 0)
     told = ["#!/bin/sh", "read -r fields < /proc/$$/stat", "set -- $fields", 'echo "niceness ${19}"']
     told += ["read -r group < /proc/$$/autogroup && echo ${group##*/*[0-9] }"] * Path("/proc/self/autogroup").exists()
     for path in ("tests/run", "tools/gate", "tools/refused"):
-        put(it.top / path, "\n".join([*told, "echo 1 passed, 0 failed", ""]), 0o755)
-    it.ship()
-    lines = it.run("test").out.splitlines()
+        put(repository.top / path, "\n".join([*told, "echo 1 passed, 0 failed", ""]), 0o755)
+    repository.ship()
+    lines = repository.run("test").out.splitlines()
     yield "the proofs go before the tests", f"tests | niceness {own + 5}" in lines and f"gate | niceness {own}" in lines
     yield "and before the edits", f"refused edits | niceness {own + 5}" in lines
     if Path("/proc/self/autogroup").exists():
         yield "so do their sessions", {"tests | nice 5", "refused edits | nice 5", "gate | nice 0"} <= {*lines}
 
 
-def what_is_tried(it: Repository) -> Iterator[Seen]:
-    begin_test(it)
-    built, shipped = f"--program={it.crates}/cpi/out/cpi", f"--program={it.shipped}"
-    it.run("test", "--seed", "7")
-    calls = it.calls("tests/run")
+def what_is_tried(repository: Repository) -> Iterator[Seen]:
+    begin_test(repository)
+    built, shipped = f"--program={repository.crates}/cpi/out/cpi", f"--program={repository.shipped}"
+    repository.run("test", "--seed", "7")
+    calls = repository.calls("tests/run")
     yield "without dist/ the tests run over what the gate built", calls[0].startswith(f"tests {built} ")
     yield "a short run, by the seed", "--seed=7" in calls[0] and "--long" not in calls[0]
     yield "at last dist/ is compared", calls[1:] == [f"tests/test_shipped_program.py {built} --seed=7"]
-    it.ship()
-    it.run("test", "--seed", "7", "--long", "--processes", "3")
+    repository.ship()
+    repository.run("test", "--seed", "7", "--long", "--processes", "3")
     words = f"tests {shipped} --seed=7 -n 3 --long --coverage"
-    yield "over dist/ if it was made of the sources at hand", it.calls("tests/run")[0] == words
-    it.run("test")
-    seeds = {call.partition("--seed=")[2].partition(" ")[0] for call in it.calls("tests/run")}
+    yield "over dist/ if it was made of the sources at hand", repository.calls("tests/run")[0] == words
+    repository.run("test")
+    seeds = {call.partition("--seed=")[2].partition(" ")[0] for call in repository.calls("tests/run")}
     yield "a seed that is drawn is the same in all parts", len(seeds) == 1 and seeds.pop().isdecimal()
-    it.ship(sources="0")
-    ran = it.run("test")
-    yield "not if it was made of others", it.calls("tests/run")[0].startswith(f"tests {built} ")
+    repository.ship(sources="0")
+    ran = repository.run("test")
+    yield "not if it was made of others", repository.calls("tests/run")[0].startswith(f"tests {built} ")
     yield "a line says so", "made of other sources" in ran.out
 
 
-def second_tries(it: Repository) -> Iterator[Seen]:
-    begin_test(it)
-    it.stand_in("tests/run", "passed at its second try only: test_a.py::test_b\n10 passed, 0 failed")
-    ran = it.run("test")
+def second_tries(repository: Repository) -> Iterator[Seen]:
+    begin_test(repository)
+    repository.stand_in("tests/run", "passed at its second try only: test_a.py::test_b\n10 passed, 0 failed")
+    ran = repository.run("test")
     line = "passed at its second try only: test_a.py::test_b\n"
     yield "they are named beside the last line", ran.status == 0 and ran.out.endswith(
         f"{line}{PASSED} passed, 0 failed\n"
     )
 
 
-def names_of_failures(it: Repository) -> Iterator[Seen]:
-    begin_test(it)
-    it.stand_in("tests/run", "failed: test_a.py::test_b\n10 passed, 1 failed", 1)
-    ran = it.run("test")
+def names_of_failures(repository: Repository) -> Iterator[Seen]:
+    begin_test(repository)
+    repository.stand_in("tests/run", "failed: test_a.py::test_b\n10 passed, 1 failed", 1)
+    ran = repository.run("test")
     line = "failed: tests: test_a.py::test_b\n"
     yield "each is named beside the last line", ran.status == 1 and line in ran.out.partition("processor minutes:")[2]
 
 
-def tests_broken_off(it: Repository, number: int) -> Iterator[Seen]:
-    begin_test(it)
-    it.stand_in("tests/run", "sleeping", sleeps=60)
-    running = it.start("test", start_new_session=True)
-    yield "the tests go on", within_seconds(lambda: it.calls("tests/run", keep=True) != [])
+def tests_broken_off(repository: Repository, number: int) -> Iterator[Seen]:
+    begin_test(repository)
+    repository.stand_in("tests/run", "sleeping", sleeps=60)
+    running = repository.start("test", start_new_session=True)
+    yield "the tests go on", within_seconds(lambda: repository.calls("tests/run", keep=True) != [])
     running.send_signal(number)
     running.communicate(timeout=20)
     yield "it ends", running.returncode == 130
-    yield "so does what it began", within_seconds(lambda: not it.is_sleeping())
-    yield "nothing is shipped", "wasn't green" in it.run("tools/dist").err
+    yield "so does what it began", within_seconds(lambda: not repository.is_sleeping())
+    yield "nothing is shipped", "wasn't green" in repository.run("tools/dist").err
 
 
-def green_tests_and_shipping(it: Repository) -> Iterator[Seen]:
-    begin_test(it)
-    ran = it.run("test")
+def green_tests_and_shipping(repository: Repository) -> Iterator[Seen]:
+    begin_test(repository)
+    ran = repository.run("test")
     yield "a green test names the kit", ran.status == 0 and ran.out.startswith(f"{KIT}\n")
     yield "its last line has all parts", ran.out.endswith(f"{PASSED} passed, 0 failed\n")
     minutes = [f"minutes: {each}: " in ran.out for each in ("low, proof", "gate", "refused edits", "tests")]
@@ -423,61 +437,74 @@ def green_tests_and_shipping(it: Repository) -> Iterator[Seen]:
     yield "and a table of them", all(
         f"{each}: 0." in table for each in ("gate", "refused edits", "tests", "  low, proof")
     )
-    yield "./cpi runs what it built", it.run("cpi", "echo", "a b") == Ran(0, "a b\n", "")
-    program = it.crates / "cpi/out/cpi"
+    yield "./cpi runs what it built", repository.run("cpi", "echo", "a b") == Ran(0, "a b\n", "")
+    program = repository.crates / "cpi/out/cpi"
     built = program.read_bytes()
-    wanted = {"sources": it.sources(), "program": hashlib.sha256(built).hexdigest(), "kit": KIT}
+    wanted = {"sources": repository.sources(), "program": hashlib.sha256(built).hexdigest(), "kit": KIT}
     wanted["machine"] = os.uname().machine
-    is_shipped = it.run("tools/dist").status == 0
-    yield "it is shipped, and MADE says what it is", is_shipped and it.made.read_text().startswith(made_of(wanted))
-    needs = it.made.read_text().splitlines()[-1]
+    is_shipped = repository.run("tools/dist").status == 0
+    yield "it is shipped, and MADE says what it is", is_shipped and repository.made.read_text().startswith(
+        made_of(wanted)
+    )
+    needs = repository.made.read_text().splitlines()[-1]
     yield "and what it needs, each in its newest version", needs == "needs: libm.so.6, libc.so.6 GLIBC_2.34"
-    yield "its notices lie next to it", (it.top / "dist/THIRD-PARTY.md").read_text() == NOTICES
-    yield "once more, nothing is written", "nothing was written" in it.run("tools/dist").out
-    put(it.top / "THIRD-PARTY.md", f"{NOTICES}More.\n")
-    is_written = "nothing was written" not in it.run("tools/dist").out
-    yield "other notices are", is_written and (it.top / "dist/THIRD-PARTY.md").read_text() == f"{NOTICES}More.\n"
+    yield "its notices lie next to it", (repository.top / "dist/THIRD-PARTY.md").read_text() == NOTICES
+    yield "once more, nothing is written", "nothing was written" in repository.run("tools/dist").out
+    put(repository.top / "THIRD-PARTY.md", f"{NOTICES}More.\n")
+    is_written = "nothing was written" not in repository.run("tools/dist").out
+    yield "other notices are", is_written and (
+        repository.top / "dist/THIRD-PARTY.md"
+    ).read_text() == f"{NOTICES}More.\n"
     program.write_bytes(built + b"more")
-    yield "another program isn't shipped", "isn't the program" in it.run("tools/dist").err
-    it.write("low", "low as it is")
-    yield "nor one of other sources", "other sources" in it.run("tools/dist").err
-    it.write("low", "low as it was")
-    shutil.rmtree(it.out / it.sources())
-    it.told()
-    yield "./cpi runs it where it lies", it.run("cpi", "echo", "a b") == Ran(0, "a b\n", "") and it.told() == []
+    yield "another program isn't shipped", "isn't the program" in repository.run("tools/dist").err
+    repository.write("low", "low as it is")
+    yield "nor one of other sources", "other sources" in repository.run("tools/dist").err
+    repository.write("low", "low as it was")
+    shutil.rmtree(repository.out / repository.sources())
+    repository.told()
+    yield "./cpi runs it where it lies", repository.run("cpi", "echo", "a b") == Ran(
+        0, "a b\n", ""
+    ) and repository.told() == []
 
 
-def comparing(it: Repository) -> Iterator[Seen]:
+def comparing(repository: Repository) -> Iterator[Seen]:
     """The program of dist/ is compared with what was built, by the tests as they are."""
-    begin_test(it)
-    it.run("test")
-    built = (it.crates / "cpi/out/cpi").read_bytes()
-    it.take_tests()
+    begin_test(repository)
+    repository.run("test")
+    built = (repository.crates / "cpi/out/cpi").read_bytes()
+    repository.take_tests()
 
     def shipped() -> Ran:
-        return it.run("tests/run", "tests/test_shipped_program.py", f"--program={it.crates}/cpi/out/cpi", cwd=it.top)
+        return repository.run(
+            "tests/run",
+            "tests/test_shipped_program.py",
+            f"--program={repository.crates}/cpi/out/cpi",
+            cwd=repository.top,
+        )
 
-    it.ship(built)
-    yield "the same program", shipped().status == 0 and it.last.out.endswith("2 passed, 0 failed\n")
-    it.ship(built + b"more")
-    yield "another program fails", shipped().status == 1 and it.last.out.endswith("1 passed, 1 failed\n")
-    it.ship(built + b"more", kit="rattle-kit-1")
-    yield "of another kit it isn't compared", shipped().status == 0 and "rattle-kit-1" in it.last.out
-    it.ship(built + b"more", sources="0")
-    yield "of other sources it isn't compared", shipped().status == 0 and "other sources" in it.last.out
-    it.ship(built, program="0", sources="0")
+    repository.ship(built)
+    yield "the same program", shipped().status == 0 and repository.last.out.endswith("2 passed, 0 failed\n")
+    repository.ship(built + b"more")
+    yield "another program fails", shipped().status == 1 and repository.last.out.endswith("1 passed, 1 failed\n")
+    repository.ship(built + b"more", kit="rattle-kit-1")
+    yield "of another kit it isn't compared", shipped().status == 0 and "rattle-kit-1" in repository.last.out
+    repository.ship(built + b"more", sources="0")
+    yield "of other sources it isn't compared", shipped().status == 0 and "other sources" in repository.last.out
+    repository.ship(built, program="0", sources="0")
     yield "one that MADE doesn't name fails", shipped().status == 1
-    shutil.rmtree(it.top / "dist")
-    yield "there may be none", shipped().status == 0 and "no program to compare" in it.last.out
+    shutil.rmtree(repository.top / "dist")
+    yield "there may be none", shipped().status == 0 and "no program to compare" in repository.last.out
 
 
-def notices_of_libraries(it: Repository) -> Iterator[Seen]:
+def notices_of_libraries(repository: Repository) -> Iterator[Seen]:
     """Of a library that crates.txt names and doesn't make."""
-    page, ended = it.top / "THIRD-PARTY.md", "\n## Licenses\n"
-    put(it.top / "crates.txt", f"{CRATES}cpi_more: low far # a library far off\n")
-    yield "none isn't shipped", it.run("tools/dist").is_refused("no entry for the crate far,", "under which license")
+    page, ended = repository.top / "THIRD-PARTY.md", "\n## Licenses\n"
+    put(repository.top / "crates.txt", f"{CRATES}cpi_more: low far # a library far off\n")
+    yield "none isn't shipped", repository.run("tools/dist").is_refused(
+        "no entry for the crate far,", "under which license"
+    )
     put(page, NOTICES.replace(ended, f"\n{NOTICE}{ended}"))
-    yield "with one it goes on", it.run("tools/dist").is_refused("wasn't green")
+    yield "with one it goes on", repository.run("tools/dist").is_refused("wasn't green")
     parts = {
         "A port of far.\n": "paragraph",
         "- Copyright (c) 2020 Far\n": "line of copyright",
@@ -485,13 +512,15 @@ def notices_of_libraries(it: Repository) -> Iterator[Seen]:
     }
     for part, name in parts.items():
         put(page, NOTICES.replace(ended, f"\n{NOTICE.replace(part, '')}{ended}"))
-        yield f"one with no {name} isn't shipped", it.run("tools/dist").is_refused(
+        yield f"one with no {name} isn't shipped", repository.run("tools/dist").is_refused(
             f"THIRD-PARTY.md: far has no {name}\n"
         )
     put(page, NOTICES.replace(ended, f"\n{NOTICE.replace('MIT', 'ISC')}{ended}"))
-    yield "nor one without the text of its license", it.run("tools/dist").is_refused("the text of the license ISC")
+    yield "nor one without the text of its license", repository.run("tools/dist").is_refused(
+        "the text of the license ISC"
+    )
     page.unlink()
-    yield "nor without the page", it.run("tools/dist").is_refused("there is no THIRD-PARTY.md")
+    yield "nor without the page", repository.run("tools/dist").is_refused("there is no THIRD-PARTY.md")
 
 
 CASES: dict[str, Callable[[Repository], Iterator[Seen]]] = {
@@ -517,9 +546,9 @@ def test_of_a_small_repository(name: str) -> None:
     count = 0
     with tempfile.TemporaryDirectory() as room:
         os.chmod(room, 0o755)
-        it = Repository(Path(room))
-        for check, is_right in CASES[name](it):
-            assert is_right, f"{check}; the last call: {it.last}"
+        repository = Repository(Path(room))
+        for check, is_right in CASES[name](repository):
+            assert is_right, f"{check}; the last call: {repository.last}"
             count += 1
     assert count
 

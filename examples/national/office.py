@@ -114,7 +114,9 @@ class Office:
         if not spent_in:
             return None
         known = self.weights(before)
-        return [(code, it, spent_in if code in known else f"{before}-12") for code, it in self.weights(year).items()]
+        return [
+            (code, weight, spent_in if code in known else f"{before}-12") for code, weight in self.weights(year).items()
+        ]
 
     # ---- the desk's records
 

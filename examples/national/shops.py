@@ -206,15 +206,15 @@ class Shops:
                 held = self.office.holder(shelf.series, month)
                 for entry in shelf.sent(turn, month):
                     visits[entry.day, held.collector].append(entry._replace(slot=held.slot))
-        found = []
+        records = []
         for (day, collector), entries in sorted(visits.items()):
             body = text_of(row_of(entry, month) for entry in entries)
-            found.append((moment(month, day, 10), self.office.keys[collector], body))
+            records.append((moment(month, day, 10), self.office.keys[collector], body))
             if drawn.random() < 0.01:  # before the window opens
-                found.append((moment(month, 1, 3), self.office.keys[collector], body.split("\n")[0] + "\n"))
+                records.append((moment(month, 1, 3), self.office.keys[collector], body.split("\n")[0] + "\n"))
             if drawn.random() < 0.02:  # the answer was lost, so the same comes again
-                found.append((moment(month, day, 11), self.office.keys[collector], body))
-        return sorted(found)
+                records.append((moment(month, day, 11), self.office.keys[collector], body))
+        return sorted(records)
 
 
 def row_of(entry: Entry, month: str) -> list[object]:

@@ -56,7 +56,7 @@ def all_nodes() -> list[Node]:
 def plan(year: int, nodes: list[Node], series: list[Series]) -> str:
     rows = [f"T,{node.code},{node.title}" for node in nodes]
     rows += [f"W,{node.code},{node.weights[year]}" for node in nodes if node.weights]
-    rows += [f"I,{it.item},{it.code}" for it in series]
+    rows += [f"I,{series.item},{series.code}" for series in series]
     rows += [f"R,{REFERENCE[year]}"] if year in REFERENCE else []
     return f'0,desk,plan,{year},"' + "\n".join(rows) + '\n"'
 

@@ -21,12 +21,12 @@ FIRST = 4
 def columns(months: list[str]) -> list[str]:
     """What stands in the columns from FIRST on: the months, and before a January but the first one the bases of the
     year."""
-    found = [months[0]]
+    columns = [months[0]]
     for month in months[1:]:
-        if month.endswith("-01") and len(found) > 1:
-            found.append(f"base {month[:4]}")
-        found.append(month)
-    return found
+        if month.endswith("-01") and len(columns) > 1:
+            columns.append(f"base {month[:4]}")
+        columns.append(month)
+    return columns
 
 
 def letter(column: int) -> str:
@@ -92,9 +92,9 @@ def prices_sheet(sheet: Sheet, series: list[Series]) -> dict[str, tuple[int, int
     more where the bases of the next year are."""
     placed = {}
     for it in series:
-        found = [it.found[f"{year_of(head) - 1}-12" if is_base(head) else head] for head in sheet.heads]
-        marks = sheet.add(it.code, it.item, "mark", [mark for mark, _ in found])
-        prices = sheet.add(it.code, it.item, "price, minor units", [price or None for _, price in found])
+        heads = [it.found[f"{year_of(head) - 1}-12" if is_base(head) else head] for head in sheet.heads]
+        marks = sheet.add(it.code, it.item, "mark", [mark for mark, _ in heads])
+        prices = sheet.add(it.code, it.item, "price, minor units", [price or None for _, price in heads])
         placed[it.item] = marks, prices
     return placed
 
@@ -177,7 +177,7 @@ def sum_cells(here: str, before: Optional[str], base: str, own: list[Rows], sums
 
 def aggregate_rows(sheet: Sheet, code: str, series: list[Series], prices: dict[str, tuple[int, int]]) -> Sums:
     """Adds an aggregate, series by series and step by step; where the rows of the whole stand."""
-    items = [it.item for it in series if it.code == code]
+    items = [series.item for series in series if series.code == code]
     begin, count = sheet.row + 1, len(LABELS)
     own = [Rows(*range(begin + turn * count, begin + (turn + 1) * count)) for turn in range(len(items))]
     end = begin + len(items) * count

@@ -106,44 +106,44 @@ class Year:
             if code in self.links:
                 worth[code] *= self.links[code] * 12 / sum(month[code] for month in months)
         whole = sum(worth.values())
-        found = {code: int(it * MILLIONTHS / whole) for code, it in worth.items()}
-        missing = MILLIONTHS - sum(found.values())
+        ints = {code: int(it * MILLIONTHS / whole) for code, it in worth.items()}
+        missing = MILLIONTHS - sum(ints.values())
         remainders = {code: it * MILLIONTHS / whole % 1 for code, it in worth.items()}
         for code in sorted(remainders, key=lambda code: -remainders[code])[:missing]:
-            found[code] += 1
-        return found
+            ints[code] += 1
+        return ints
 
     def carry(self, code: str, kept: Prices, now: Quotes, before: Quotes) -> tuple[Prices, bool]:
         """The carried prices of one aggregate, and whether no price could move a missing one."""
-        found: Prices = {}
+        prices: Prices = {}
         lacking: list[tuple[Place, Optional[int]]] = []
         for place in self.samples[code]:
             quote = now.get(place)
             if quote and quote.price is not None and quote.mark in ("price", "comparable"):
                 scale = kept[place].scale
-                found[place] = Kept(nearest(quote.price * scale, TICKS), scale, False)
+                prices[place] = Kept(nearest(quote.price * scale, TICKS), scale, False)
             else:
                 lacking.append((place, quote.price if quote else None))
-        matched = [place for place in found if place in before and before[place].price is not None]
+        matched = [place for place in prices if place in before and before[place].price is not None]
         movement = Fraction(1)
         if matched:
-            movement = total(found[at].price for at in matched) / total(kept[at].price for at in matched)
+            movement = total(prices[at].price for at in matched) / total(kept[at].price for at in matched)
         for place, price in lacking:
             imputed = nearest(kept[place].price * movement, TICKS)
-            found[place] = Kept(imputed, imputed / price if price else kept[place].scale, True)
-        return found, bool(lacking and not matched)
+            prices[place] = Kept(imputed, imputed / price if price else kept[place].scale, True)
+        return prices, bool(lacking and not matched)
 
     def carried(self, kept: Prices, now: Quotes, before: Quotes) -> tuple[Prices, dict[str, bool], list[str]]:
         """The carried prices of all aggregates, whether something was imputed in each, and the aggregates in which no
         price could move a missing one."""
-        found: Prices = {}
+        prices: Prices = {}
         flags, carry = dict[str, bool](), list[str]()
         for code in sorted(self.weights):
             own, is_idle = self.carry(code, kept, now, before)
-            found.update(own)
+            prices.update(own)
             flags[code] = any(it.is_imputed for it in own.values())
             carry += [code] if is_idle else []
-        return found, flags, carry
+        return prices, flags, carry
 
     def dutot(self, code: str, kept: Prices) -> Fraction:
         """The mean price now over the mean base price."""
@@ -182,7 +182,7 @@ def tables(survey: Survey) -> dict[Id, Month]:
     to be carried. A month is computed from the last revisions of the months before it."""
     year: Year | None = None
     kept: Prices = {}
-    levels, found = dict[str, Levels](), dict[Id, Month]()
+    levels, months = dict[str, Levels](), dict[Id, Month]()
     for month in survey.months[1:]:
         if month.endswith("-01"):
             year = Year(survey, int(month[:4]), dict(kept), levels)
@@ -193,37 +193,37 @@ def tables(survey: Survey) -> dict[Id, Month]:
             quotes = survey.of_revision(month, revision)
             kept, flags, carry = year.carried(before, quotes, survey.quotes[previous(month)])
             rows = list(year.rows(kept, flags, levels, month))
-            found[month, revision] = Month(rows, carry)
+            months[month, revision] = Month(rows, carry)
             levels[month] = {row.code: row.level for row in rows}
-    return found
+    return months
 
 
-def latest(found: Mapping[Id, Month]) -> dict[str, Month]:
+def latest(months: Mapping[Id, Month]) -> dict[str, Month]:
     """The last revision of each month."""
-    return {month: table for (month, _), table in sorted(found.items())}
+    return {month: table for (month, _), table in sorted(months.items())}
 
 
-def moving(found: dict[str, Month]) -> Iterator[str]:
+def moving(months: dict[str, Month]) -> Iterator[str]:
     """The fault of the weights of the four years, if any: weights that the program moved by prices, from a reference
     month, no longer add up to a million; all others do, and the weights that the office moved differ from the
     spending."""
-    januaries = [month for month in sorted(found) if month.endswith("-01")]
-    sums = [found[month].rows[0].weight for month in januaries]
+    januaries = [month for month in sorted(months) if month.endswith("-01")]
+    sums = [months[month].rows[0].weight for month in januaries]
     if [total == 1_000_000 for total in sums] != [True, True, True, False]:
         yield f"the weights add up to {sums}"
     for january in januaries[1:3]:
         spent = {row["code"]: int(row[f"weight_{january[:4]}"] or 0) for row in data("basket")}
         shares = {code: nearest(Fraction(it * 1_000_000, sum(spent.values())), 1) for code, it in spent.items()}
-        apart = [row.code for row in found[january].rows if abs(row.weight - shares[row.code]) > 1 and "-" in row.code]
+        apart = [row.code for row in months[january].rows if abs(row.weight - shares[row.code]) > 1 and "-" in row.code]
         if len(apart) < 200:
             yield f"the weights of {january[:4]} are what was spent, but for {len(apart)} of them"
 
 
-def coming_and_going(found: dict[str, Month]) -> Iterator[str]:
+def coming_and_going(months: dict[str, Month]) -> Iterator[str]:
     """The fault of the aggregates that the example shows, if any: one comes in the second year, and one isn't in the
     plan of the second year and returns in the third, where it begins at 100 in the December before."""
-    by_month = {month: {row.code: row for row in it.rows} for month, it in found.items()}
-    years = sorted({month[:4] for month in found})
+    by_month = {month: {row.code: row for row in it.rows} for month, it in months.items()}
+    years = sorted({month[:4] for month in months})
     codes = [{code for code in by_month[f"{year}-01"] if "-" in code} for year in years]
     come, left = codes[1] - codes[0], codes[0] - codes[1]
     if (len(come), len(left)) != (1, 1) or not come | left <= codes[2] & codes[3]:

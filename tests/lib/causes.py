@@ -89,7 +89,7 @@ def find_growths(crate: Crate) -> list[Place]:
 def find_renamed(crate: Crate) -> list[str]:
     """The lines, or parts of lines, that give a fault, a token or a sight another name, and those of a macro."""
     texts = (drop_comments(text) for path, text in sorted(crate.texts.items()) if path.endswith(".rt"))
-    return [found[0].strip() for text in texts for found in RENAMED.finditer(text)]
+    return [match[0].strip() for text in texts for match in RENAMED.finditer(text)]
 
 
 def find_made_tokens(crate: Crate) -> list[Place]:
@@ -122,7 +122,7 @@ def find_notes(crate: Crate) -> list[Place]:
 def find_streams(crate: Crate) -> list[str]:
     """The names of the readers and writers that a crate writes itself."""
     texts = (drop_comments(text) for path, text in sorted(crate.texts.items()) if path.endswith(".rt"))
-    return [found[1] for text in texts for found in STREAM.finditer(text)]
+    return [match[1] for text in texts for match in STREAM.finditer(text)]
 
 
 def drop_comments(text: str) -> str:

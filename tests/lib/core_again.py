@@ -47,12 +47,12 @@ def changes_of(tables: Mapping[str, Levels], month: str, is_annual: bool) -> lis
     is new in the year has 100 in the December before."""
     against = earlier(month, 12 if is_annual else 1)
     then, is_december = tables.get(against, {}), against.endswith("-12")
-    found = []
+    changes = []
     for code, (level, weight) in tables[month].items():
         base = then[code][0] if code in then else HUNDRED if is_december else None
         if base is not None:
-            found.append((level / base - 1, weight))
-    return found
+            changes.append((level / base - 1, weight))
+    return changes
 
 
 def rounded(percent: Fraction) -> str:

@@ -20,11 +20,11 @@ CRATE = re.compile(r"crates/(\w+)/README\.md")
 
 
 def numbers_in(text: str) -> list[int]:
-    return [int(it) for it in DECISION.findall(text)]
+    return [int(element) for element in DECISION.findall(text)]
 
 
 def unindented(text: str) -> str:
-    return "\n".join(it.strip() for it in text.splitlines())
+    return "\n".join(line.strip() for line in text.splitlines())
 
 
 def crate_readme_faults(name: str, text: str) -> Iterator[str]:
@@ -36,13 +36,13 @@ def crate_readme_faults(name: str, text: str) -> Iterator[str]:
     lines = text.count("\n")
     if lines > MOST_LINES:
         yield f"{lines} lines, over {MOST_LINES}"
-    yield from (f"a choice has the number {it} in place of a name" for it in numbers_in(text))
+    yield from (f"a choice has the number {number} in place of a name" for number in numbers_in(text))
     examples = list(EXAMPLE.finditer(text))
     if len(examples) != text.count("```rust"):
         yield "an example without its file"
-    for it in examples:
-        source = ROOT / "crates" / it["file"]
-        if not source.is_file() or unindented(it["code"]) not in unindented(source.read_text(encoding="utf-8")):
-            yield f"its example isn't in {it['file']}"
+    for example in examples:
+        source = ROOT / "crates" / example["file"]
+        if not source.is_file() or unindented(example["code"]) not in unindented(source.read_text(encoding="utf-8")):
+            yield f"its example isn't in {example['file']}"
     edits = (ROOT / "crates" / crate[1]).glob("must-*/*.edit")
-    yield from (f"no word of the wrong program {it.stem}" for it in sorted(edits) if f"`{it.stem}`" not in text)
+    yield from (f"no word of the wrong program {edit.stem}" for edit in sorted(edits) if f"`{edit.stem}`" not in text)

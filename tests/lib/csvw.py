@@ -34,7 +34,7 @@ def metadata_of(path: Path) -> Optional[tuple[dict[str, Any], dict[str, Any]]]:
         if (path.parent / name).is_file():
             group = json.loads((path.parent / name).read_text(encoding="utf-8"))
             assert group["@context"] == CONTEXT
-            tables = [it for it in group.get("tables", [group]) if it["url"] == path.name]
+            tables = [table for table in group.get("tables", [group]) if table["url"] == path.name]
             if tables:
                 (table,) = tables
                 return table, group
@@ -43,38 +43,38 @@ def metadata_of(path: Path) -> Optional[tuple[dict[str, Any], dict[str, Any]]]:
 
 def schema_of(path: Path, table: dict[str, Any], group: dict[str, Any]) -> dict[str, Any]:
     """The columns of a table: its own, or the columns of its group; a text is the name of a file that contains them."""
-    found = table.get("tableSchema", group.get("tableSchema"))
-    if isinstance(found, str):
-        found = json.loads((path.parent / found).read_text(encoding="utf-8"))
-        assert found["@context"] == CONTEXT
-    assert isinstance(found, dict)
-    return found
+    schema = table.get("tableSchema", group.get("tableSchema"))
+    if isinstance(schema, str):
+        schema = json.loads((path.parent / schema).read_text(encoding="utf-8"))
+        assert schema["@context"] == CONTEXT
+    assert isinstance(schema, dict)
+    return schema
 
 
 def faults_of(path: Path) -> Iterator[str]:
     """The differences between a CSV file and its metadata."""
-    found = metadata_of(path)
-    if found is None:
+    metadata = metadata_of(path)
+    if metadata is None:
         yield f"{path}: no metadata"
         return
-    schema, dialect = schema_of(path, *found), found[1].get("dialect", {})
+    schema, dialect = schema_of(path, *metadata), metadata[1].get("dialect", {})
     columns = schema["columns"]
     with path.open(encoding=dialect.get("encoding", "utf-8"), newline="") as file:
         rows = [*csv.reader(file, delimiter=dialect.get("delimiter", ","), quotechar=dialect.get("quoteChar", '"'))]
-    names = [it["name"] for it in columns]
-    yield from (f"{path}: {it} is no name of a column" for it in names if not NAME.fullmatch(it))
+    names = [column["name"] for column in columns]
+    yield from (f"{path}: {name} is no name of a column" for name in names if not NAME.fullmatch(name))
     if len({*names}) != len(names):
         yield f"{path}: two columns have one name"
     if dialect.get("header", True):
         head = rows.pop(0)
-        if head != [it.get("titles", it["name"]) for it in columns]:
+        if head != [column.get("titles", column["name"]) for column in columns]:
             yield f"{path}: its columns are {head}"
     keys = set[tuple[str, ...]]()
     for at, row in enumerate(rows, 1):
         if len(row) != len(columns):
             yield f"{path}: row {at} has {len(row)} cells"
             continue
-        yield from (f"{path}: row {at}: {it}" for it in cell_faults(columns, row))
+        yield from (f"{path}: row {at}: {fault}" for fault in cell_faults(columns, row))
         key = tuple(row[names.index(it)] for it in schema.get("primaryKey", ()))
         if key and key in keys:
             yield f"{path}: row {at}: {key} is there twice"

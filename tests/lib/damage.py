@@ -79,6 +79,6 @@ def read_in_part(program: Program, path: str, told: Sequence[bytes], refused: Se
     """The fault, if the latter records aren't the only ones that are refused with 90; the former are sent before and
     after them."""
     ran = program.replay(b"".join([*told, *refused, *told]), path)
-    found = [line == b'{"refused":90}' for line in ran.out.splitlines()]
+    lines = [line == b'{"refused":90}' for line in ran.out.splitlines()]
     wanted = [False] * len(told) + [True] * len(refused) + [False] * len(told)
-    return None if found == wanted and not ran.status else f"{ran}"
+    return None if lines == wanted and not ran.status else f"{ran}"

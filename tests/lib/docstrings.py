@@ -42,10 +42,10 @@ def name_of(base: ast.expr) -> str:
 
 def docstring_findings(files: Sequence[str]) -> dict[str, list[str]]:
     """By file, its public functions without a docstring."""
-    found: dict[str, list[str]] = {}
+    findings: dict[str, list[str]] = {}
     for name in files:
         if name.startswith(SAID):
             tree = ast.parse((ROOT / name).read_text(encoding="utf-8"))
             if unsaid := [f":{line}: {function} has no docstring" for line, function in functions_unsaid(tree)]:
-                found[name] = unsaid
-    return found
+                findings[name] = unsaid
+    return findings

@@ -51,7 +51,7 @@ def seen(text: str) -> str:
 
 
 def cells(line: str) -> list[str]:
-    return [it.strip() for it in re.split(r"(?<!\\)\|", line.strip().strip("|"))]
+    return [word.strip() for word in re.split(r"(?<!\\)\|", line.strip().strip("|"))]
 
 
 def paragraphs(text: str) -> Iterator[tuple[bool, str]]:
@@ -60,7 +60,7 @@ def paragraphs(text: str) -> Iterator[tuple[bool, str]]:
         if block.lstrip().startswith("|"):
             yield from ((True, line) for line in block.strip().splitlines())
         else:
-            yield from ((False, it) for it in re.split(r"\n(?=\s*(?:[-*]|\d+\.)\s)", block))
+            yield from ((False, word) for word in re.split(r"\n(?=\s*(?:[-*]|\d+\.)\s)", block))
 
 
 def layout_faults(name: str, text: str) -> Iterator[str]:
@@ -81,9 +81,11 @@ def readme_faults(text: str) -> Iterator[str]:
         yield f"it isn't of version {latest[1]}, the first one in CHANGELOG"
     if len(lines) > 110:
         yield f"{len(lines)} lines, where 110 are two screens"
-    yield from (f"a line of {len(it)} characters: {it[:60]}.." for it in lines if len(it) > 300)
+    yield from (f"a line of {len(line)} characters: {line[:60]}.." for line in lines if len(line) > 300)
     rows = [part for is_row, part in paragraphs(text) if is_row]
-    yield from (f"a cell of {len(it)} characters: {it[:60]}.." for row in rows for it in cells(row) if len(it) > 90)
+    yield from (
+        f"a cell of {len(cell)} characters: {cell[:60]}.." for row in rows for cell in cells(row) if len(cell) > 90
+    )
 
 
 # ---- the length
@@ -120,7 +122,7 @@ def pages() -> list[Path]:
 
 def all_words() -> str | None:
     """The fault of the total length of the English pages of docs/, if any."""
-    count = sum(count_words(it.read_text(encoding="utf-8")) for it in pages())
+    count = sum(count_words(page.read_text(encoding="utf-8")) for page in pages())
     return f"{count} words, over {MOST_OF_ALL}" if count > MOST_OF_ALL else None
 
 
@@ -158,14 +160,14 @@ def read_code(code: Code, crate: str, lines: list[str]) -> None:
     """A file of a crate's src/: a function's head goes on to the brace of its body, or to its end."""
     owner, is_open, names, clauses = "", False, list[str](), set[str]()
     for line in lines:
-        if found := OWNER.match(line):
-            owner, is_open = found[3], bool(found[1] or found[2])
+        if match := OWNER.match(line):
+            owner, is_open = match[3], bool(match[1] or match[2])
         elif line == "}":
             owner, is_open = "", False
-        if (found := FUNCTION.match(line)) and (found[1] or is_open):
-            names, clauses = [found[2], *([f"{owner}::{found[2]}"] if owner else [])], set()
-        elif found := CLAUSE.match(line):
-            clauses.add(found[1])
+        if (match := FUNCTION.match(line)) and (match[1] or is_open):
+            names, clauses = [match[2], *([f"{owner}::{match[2]}"] if owner else [])], set()
+        elif match := CLAUSE.match(line):
+            clauses.add(match[1])
         for pattern in DECLARED, VARIANT:
             code.names.update(pattern.findall(line))
         if names and (line.strip() in ("{", "{}") or line.endswith((";", ") {", "> {"))):
@@ -181,9 +183,11 @@ def the_code() -> Code:
         code.names.update((crate, path.stem))
         read_code(code, crate, path.read_text(encoding="utf-8").splitlines())
     for path in sorted(ROOT.glob("crates/*/specs/**/*.antt")):
-        found = {it[1] for line in path.read_text(encoding="utf-8").splitlines() if (it := DEFINITION.match(line))}
-        code.definitions[str(path.relative_to(ROOT / "crates"))] = found
-        code.names.update(found)
+        lines = {
+            match[1] for line in path.read_text(encoding="utf-8").splitlines() if (match := DEFINITION.match(line))
+        }
+        code.definitions[str(path.relative_to(ROOT / "crates"))] = lines
+        code.names.update(lines)
     return code
 
 
@@ -215,13 +219,18 @@ def claim_faults(text: str, code: Code) -> Iterator[str]:
         functions = [] if is_row else functions
         for kind, names in claims(part):
             if kind == "function":
-                functions = [it for it in names if it in code.clauses] or functions
+                functions = [name for name in names if name in code.clauses] or functions
             elif kind == "clause":
                 yield from (f"{c} is a clause of no function" for c in names if not functions)
-                yield from (f"{it} has no clause {c}" for it in functions for c in names if not has_clause(code, it, c))
+                yield from (
+                    f"{function} has no clause {c}"
+                    for function in functions
+                    for c in names
+                    if not has_clause(code, function, c)
+                )
             elif kind.endswith(".antt"):
                 there = code.definitions.get(kind, set())
-                yield from (f"{it} isn't in {kind}" for it in names if it not in there)
+                yield from (f"{name} isn't in {kind}" for name in names if name not in there)
 
 
 def has_clause(code: Code, function: str, clause: str) -> bool:
@@ -251,7 +260,7 @@ OUTSIDE = {
 def files() -> list[Path]:
     """Each file and folder of the repository, except built or written ones."""
     left_out = {".git", "out", "__pycache__"}
-    return [it for it in sorted(ROOT.rglob("*")) if not left_out & set(it.relative_to(ROOT).parts)]
+    return [path for path in sorted(ROOT.rglob("*")) if not left_out & set(path.relative_to(ROOT).parts)]
 
 
 def found_path(quoted: str, base: Path) -> Path | None:
@@ -260,13 +269,13 @@ def found_path(quoted: str, base: Path) -> Path | None:
     A file's name by itself, except the name of a definition or of code, may be in any folder.
     """
     for folder in (base, base.parent, ROOT, ROOT / "crates"):
-        if found := next(folder.glob(quoted.rstrip("/")), None):
-            return found
+        if path := next(folder.glob(quoted.rstrip("/")), None):
+            return path
     if "*" in quoted:
         return next(ROOT.glob(f"crates/*/{quoted}"), None)
     if quoted.endswith((".rt", ".antt")):
         return None
-    return next((it for it in files() if it.match(quoted.rstrip("/"))), None)
+    return next((file for file in files() if file.match(quoted.rstrip("/"))), None)
 
 
 def is_path(quoted: str) -> bool:
@@ -281,18 +290,18 @@ def path_faults(text: str) -> Iterator[str]:
             if (ROOT / "crates" / quoted).is_dir() and "/" not in quoted:
                 base = ROOT / "crates" / quoted
             elif is_path(quoted):
-                found = found_path(quoted, base)
-                if found is None:
+                path = found_path(quoted, base)
+                if path is None:
                     yield f"there is no {quoted}"
                 else:
-                    base = found if found.is_dir() else found.parent
+                    base = path if path.is_dir() else path.parent
 
 
 @lru_cache(maxsize=1)
 def other_names() -> set[str]:
     """Names of modules, scripts and crates of the toolchain."""
     names = set(re.findall(r"\w+", (ROOT / "crates.txt").read_text(encoding="utf-8"))) | OUTSIDE
-    return names | {it.stem for it in files() if it.relative_to(ROOT).parts[0] in ("tools", "web", "tests")}
+    return names | {file.stem for file in files() if file.relative_to(ROOT).parts[0] in ("tools", "web", "tests")}
 
 
 def name_faults(text: str, code: Code) -> Iterator[str]:
@@ -322,7 +331,7 @@ def bodies_of(crate: Path, name: str) -> Iterator[str]:
     for path in sorted(crate.glob("src/**/*.rt")):
         text = path.read_text(encoding="utf-8")
         parts = re.findall(rf"^impl[^\n]*\b{owner}\b.*?^\}}$", text, re.M | re.S) if owner else [text]
-        yield from (found[0] for part in parts for found in head.finditer(part))
+        yield from (match[0] for part in parts for match in head.finditer(part))
 
 
 def drawing_faults(text: str, crates: Path = ROOT / "crates") -> Iterator[str]:
@@ -340,14 +349,16 @@ def drawing_faults(text: str, crates: Path = ROOT / "crates") -> Iterator[str]:
 
 def promise_faults(text: str) -> Iterator[str]:
     items = (part for _, part in paragraphs(text) if part.lstrip().startswith("- "))
-    yield from (f"no heading of PROOF carries: {seen(it)[:60]}.." for it in items if "](../develop/PROOF.md#" not in it)
+    yield from (
+        f"no heading of PROOF carries: {seen(item)[:60]}.." for item in items if "](../develop/PROOF.md#" not in item
+    )
 
 
 def script_faults(folder: Path, text: str) -> Iterator[str]:
     """Scripts, and files of tests, that the README of their folder doesn't name."""
-    files = [it for it in sorted(folder.iterdir()) if it.is_file()]
-    named = [it.name for it in files if it.stat().st_mode & 0o111 or it.match("test_*.py")]
-    yield from (f"no word of {it}" for it in named if not re.search(rf"[`/\[]{re.escape(it)}\b", text))
+    files = [path for path in sorted(folder.iterdir()) if path.is_file()]
+    named = [file.name for file in files if file.stat().st_mode & 0o111 or file.match("test_*.py")]
+    yield from (f"no word of {name}" for name in named if not re.search(rf"[`/\[]{re.escape(name)}\b", text))
 
 
 def example_faults(text: str) -> Iterator[str]:
@@ -359,8 +370,8 @@ def example_faults(text: str) -> Iterator[str]:
         return
     case = ROOT / named[1]
     replies = (case / "stdout").read_text(encoding="utf-8").splitlines()
-    wanted = [(case / "stdin").read_text(encoding="utf-8"), *(json.loads(it)["table"] for it in replies[-2:])]
-    shown = [it.split("\n", 1)[1][:-3] for it in FENCED.findall(example)[:3]]
+    wanted = [(case / "stdin").read_text(encoding="utf-8"), *(json.loads(reply)["table"] for reply in replies[-2:])]
+    shown = [element.split("\n", 1)[1][:-3] for element in FENCED.findall(example)[:3]]
     yield from (f"its block {at} isn't that of {case.name}" for at in range(3) if shown[at] != wanted[at])
 
 
@@ -384,17 +395,20 @@ ALTERNATIVE = re.compile(r"\binstead of\b|, not \w|\bwould")
 
 def record_faults(text: str) -> Iterator[str]:
     """Each record has a date, the alternative, and a number that no other decision has."""
-    for part in (it for _, it in paragraphs(text) if RECORD.match(it)):
+    for part in (paragraph for _, paragraph in paragraphs(text) if RECORD.match(paragraph)):
         if not DATED.match(part):
             yield f"a record without a date: {part[:60]}.."
         if not ALTERNATIVE.search(part):
             yield f"a record that doesn't say what it replaced: {part[:60]}.."
     every = numbers_in(text)
-    yield from (f"two decisions have the number {it}" for it in sorted({it for it in every if every.count(it) > 1}))
+    yield from (
+        f"two decisions have the number {number}"
+        for number in sorted({number for number in every if every.count(number) > 1})
+    )
 
 
 CLAIMING = {"README.md", "docs/develop/PROOF.md", "docs/develop/THEOREM.md", "docs/data/AUDIT.md"}
-NAMED = {*CLAIMING, *(f"docs/develop/{it}.md" for it in ("ARCHITECTURE", "CONTRIBUTING", "DEVIATIONS", "TERMS"))}
+NAMED = {*CLAIMING, *(f"docs/develop/{text}.md" for text in ("ARCHITECTURE", "CONTRIBUTING", "DEVIATIONS", "TERMS"))}
 ALONE = {
     "docs/develop/DECISIONS.md": record_faults,
     "docs/reference/FORMATS.md": example_faults,

@@ -38,14 +38,14 @@ PLACE = re.compile(r"\\\{[a-z_]+\\\}")
 
 def translations() -> list[str]:
     """The names of the guides in other languages."""
-    folders = [it.stem for it in sorted((ROOT / "po").glob("*.po"))]
+    folders = [path.stem for path in sorted((ROOT / "po").glob("*.po"))]
     return [f"docs/desk/{code}/{path.name}" for code in folders for path in sorted((DOCS / code).glob("*.md"))]
 
 
 def parts(text: str) -> list[tuple[str, str]]:
     """The parts of a guide, each with its heading; the first one is the text before them."""
-    found = re.split(r"^(?=## )", text, flags=re.M)
-    return [(part.partition("\n")[0].lstrip("# "), part) for part in found]
+    words = re.split(r"^(?=## )", text, flags=re.M)
+    return [(part.partition("\n")[0].lstrip("# "), part) for part in words]
 
 
 def sum_of(part: str) -> str:
@@ -105,17 +105,21 @@ def sum_faults(guide: str, sums: Sequence[str], source: str) -> Iterator[str]:
 def name_faults(code: str, text: str, source: str) -> Iterator[str]:
     """Buttons and states that the guide names in another way than the page, or that it leaves out."""
     for kind, find in (("button", NAMED), ("state", STATE)):
-        wanted = {it: told(code, it) for it in find.findall(COMMANDS.sub("", source))}
+        wanted = {element: told(code, element) for element in find.findall(COMMANDS.sub("", source))}
         known = {it: forms for it, forms in wanted.items() if forms}
         if kind == "button":
             yield from (f"no catalogue has the button {it!r} of the English guide" for it in wanted if it not in known)
         named = set(find.findall(COMMANDS.sub("", text)))
         for english, forms in known.items():
-            if not any(form.fullmatch(it) for form in forms for it in named):
+            if not any(form.fullmatch(element) for form in forms for element in named):
                 yield f"no word of the {kind} {english!r}, which the page calls {forms[0].pattern!r}"
         if kind == "button":
             every = [form for forms in known.values() for form in forms]
-            yield from (f"{it!r} is no button of the page" for it in named if not any(e.fullmatch(it) for e in every))
+            yield from (
+                f"{element!r} is no button of the page"
+                for element in named
+                if not any(e.fullmatch(element) for e in every)
+            )
 
 
 def bring_up_to_date(name: str) -> None:

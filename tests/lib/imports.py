@@ -46,7 +46,7 @@ def imported(path: Path) -> Iterator[tuple[int, Path]]:
 
 def import_findings(files: Sequence[str]) -> dict[str, list[str]]:
     """By file, the imports that the README of its folder doesn't allow."""
-    found: dict[str, list[str]] = {}
+    findings: dict[str, list[str]] = {}
     for name in files:
         path = ROOT / name
         if path.suffix != ".py" or not path.is_relative_to(PACKAGE):
@@ -54,5 +54,5 @@ def import_findings(files: Sequence[str]) -> dict[str, list[str]]:
         for line, folder in imported(path):
             if folder not in allowed(path.parent):
                 at = f":{line}: from {folder.relative_to(PACKAGE)}, which the README of its folder doesn't name"
-                found.setdefault(name, []).append(at)
-    return found
+                findings.setdefault(name, []).append(at)
+    return findings

@@ -49,13 +49,13 @@ class Linter(NamedTuple):
 
 def findings(lines: Iterable[str], files: Sequence[str]) -> Found:
     """The findings among the lines that a linter prints, by their files. RuntimeError: one is in another file."""
-    found: Found = {}
+    findings: Found = {}
     for line in lines:
         if place := AT.match(line):
             if place["file"] not in files:
                 raise RuntimeError(f"a finding in a file that it wasn't given: {line}")
-            found.setdefault(place["file"], []).append(line[place.end("file") :])
-    return found
+            findings.setdefault(place["file"], []).append(line[place.end("file") :])
+    return findings
 
 
 def ran(files: Sequence[str], *words: str, **environment: str) -> Found:
@@ -79,15 +79,15 @@ def kept_types() -> Path:
 def by_mypy(files: Sequence[str]) -> Found:
     """Some runs, with the folders that tests and tools import from. They read again the modules that changed since an
     earlier run, and the modules that import these."""
-    parts = [[it for it in files if it.startswith(folder)] for folder in APART]
+    parts = [[file for file in files if file.startswith(folder)] for folder in APART]
     words = ["mypy", "--strict", "--scripts-are-modules", "--no-error-summary", "--hide-error-context"]
     kept = kept_types()
     kept.mkdir(parents=True, exist_ok=True)
     found: Found = {}
-    for number, part in enumerate([[it for it in files if not it.startswith(APART)], *parts]):
+    for number, part in enumerate([[file for file in files if not file.startswith(APART)], *parts]):
         # (modules of two runs may have one name)
         found.update(ran(part, *words, f"--cache-dir={kept}/{number}", MYPYPATH="tests:tools:bench"))
-    return {name: [it for it in lines if ": note: " not in it] for name, lines in found.items()}
+    return {name: [line for line in lines if ": note: " not in line] for name, lines in found.items()}
 
 
 def by_black(files: Sequence[str]) -> Found:
@@ -98,17 +98,17 @@ def by_black(files: Sequence[str]) -> Found:
     if run.returncode not in (0, 1):
         raise RuntimeError(f"black ended with status {run.returncode}: {run.stderr[-500:]}")
     named = re.findall(r"^would reformat (.*)$", run.stderr, re.MULTILINE)
-    return {it: ["black -l 120 lays it out otherwise"] for it in named}
+    return {element: ["black -l 120 lays it out otherwise"] for element in named}
 
 
 def by_codespell(files: Sequence[str]) -> Found:
     """Codespell knows only English words, so it reads no guide in another language."""
-    return ran([it for it in files if not IN_ANOTHER_LANGUAGE.match(it)], "codespell", "-I", WORDS)
+    return ran([file for file in files if not IN_ANOTHER_LANGUAGE.match(file)], "codespell", "-I", WORDS)
 
 
 def by_tsc(files: Sequence[str]) -> Found:
     """Checks the scripts of pages with the types of pages, and the service worker with its own types."""
-    pages, worker = [it for it in files if it != WORKER], [it for it in files if it == WORKER]
+    pages, worker = [file for file in files if file != WORKER], [file for file in files if file == WORKER]
     words = "tsc --checkJs --allowJs --noEmit --target es2022 --module es2022 --moduleResolution node --lib".split()
     return {
         **ran(pages, *words, "es2022,dom,dom.iterable", "tests/linters/pages.d.ts"),

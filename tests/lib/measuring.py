@@ -127,12 +127,12 @@ def wait(sources: str, notes: str) -> None:
 
 def lines_of(notes: str) -> dict[str, set[int]]:
     """The lines that all processes noted, by the names of their files."""
-    found: dict[str, set[int]] = {}
+    lines: dict[str, set[int]] = {}
     for entry in os.scandir(notes):
         with open(entry.path, encoding="utf-8") as file:
             for line in file:
                 name, colon, numbers = line.rstrip("\n").partition(":")
                 # (a line without the stop at its end was cut by a fault)
                 if colon and numbers.endswith("."):
-                    found.setdefault(name, set()).update(int(it) for it in numbers[:-1].split())
-    return found
+                    lines.setdefault(name, set()).update(int(word) for word in numbers[:-1].split())
+    return lines

@@ -61,8 +61,8 @@ class Survey:
                 if row["sold_in"] == outlet["kind"] and row["region"] in ("", outlet["region"]):
                     number = int(outlet["collector"])
                     slots[number] += 1
-                    months = [it for it in self.months if outlet["first"] <= it <= outlet["last"]]
-                    months = [it for it in months if row["first"] <= it <= (row["last"] or it)]
+                    months = [month for month in self.months if outlet["first"] <= month <= outlet["last"]]
+                    months = [month for month in months if row["first"] <= month <= (row["last"] or month)]
                     self.series[number, slots[number]] = item, months[0], months[-1]
         self.slots = {place: (place, first, last) for place, (_, first, last) in self.series.items()}
         self.handed: list[tuple[Place, Place, Place, str]] = []  # series, the slots before and after, and the month

@@ -37,7 +37,10 @@ Values = list[tuple[str, Fraction]]
 
 def pictures_in(page: Texts) -> dict[str, str]:
     """The pictures of a page by their kinds."""
-    return {kind: it for it, kind in re.findall(r'(<svg .*?aria-labelledby="(\w+)-title.*?</svg>)', page.markup, re.S)}
+    return {
+        kind: element
+        for element, kind in re.findall(r'(<svg .*?aria-labelledby="(\w+)-title.*?</svg>)', page.markup, re.S)
+    }
 
 
 def scale_of(picture: str) -> Callable[[float], float]:
@@ -55,7 +58,7 @@ def is_near(scale: Callable[[float], float], at: float, value: Fraction) -> bool
 def line_faults(picture: str, values: Values) -> Wanted:
     """The faults of the line of the index, and of its description."""
     (path,) = re.findall(r'<path class="line own" d="M([^"]*)"', picture)
-    places = [tuple(map(float, it.split(" "))) for it in path.split("L")]
+    places = [tuple(map(float, word.split(" "))) for word in path.split("L")]
     scale = scale_of(picture)
     wrong = [month for (_, y), (month, value) in zip(places, values) if not is_near(scale, y, value)]
     yield "line", (len(places), wrong, [*places] == sorted(places)), (len(values), [], True)
@@ -98,16 +101,16 @@ def number(value: Fraction) -> str:
 
 def changes(known: Figures, month: str, is_annual: bool) -> Values:
     """The changes of all items up to a month."""
-    found = ((it, known.changes(ALL, it)[is_annual]) for it in known.months if it <= month)
-    return [(it, value) for it, value in found if value is not None]
+    months = ((it, known.changes(ALL, it)[is_annual]) for it in known.months if it <= month)
+    return [(month, value) for month, value in months if value is not None]
 
 
 def levels(known: Figures, month: str) -> Values:
     """The index of all items up to a month; a first month is drawn from December before it."""
     base = december_before(known.months[0])
-    found = [(it, known.lines[ALL][it].level) for it in known.months if it <= month]
-    found = [(base, Fraction(100)), *found] if len(found) == 1 else found
-    return [(it, known.shown(ALL, base, level)) for it, level in found]
+    months = [(it, known.lines[ALL][it].level) for it in known.months if it <= month]
+    months = [(base, Fraction(100)), *months] if len(months) == 1 else months
+    return [(month, known.shown(ALL, base, level)) for month, level in months]
 
 
 def of_page(pictures: Mapping[str, str], known: Figures, month: str) -> Wanted:
@@ -134,27 +137,31 @@ def drawn(markup: str) -> list[str]:
 
 def bar_faults(picture: str, then: Then, codes: Sequence[str], is_sorted: bool) -> Wanted:
     """The faults of the bars of some items' contributions to the change of all items, with their labels and values."""
-    found = [(value, code) for code in codes if (value := then.given(code)) is not None]
-    found = sorted(found, key=lambda it: (-it[0], it[1])) if is_sorted else found
-    titles = [then.known.titles[code] for _, code in found]
-    texts = [Texts(it).of("text")[0] for it in re.findall(r'<text [^>]*font-size="12"[^>]*>.*?</text>', picture)]
+    matching_codes = [(value, code) for code in codes if (value := then.given(code)) is not None]
+    matching_codes = sorted(matching_codes, key=lambda code: (-code[0], code[1])) if is_sorted else matching_codes
+    titles = [then.known.titles[code] for _, code in matching_codes]
+    texts = [
+        Texts(element).of("text")[0] for element in re.findall(r'<text [^>]*font-size="12"[^>]*>.*?</text>', picture)
+    ]
     values = [it for it in texts if re.fullmatch("[+\u2212]?[0-9.]+", it)]
-    yield "values of bars", values, [signed(value, 2) for value, _ in found]
+    yield "values of bars", values, [signed(value, 2) for value, _ in matching_codes]
     yield "labels of bars", " ".join(it for it in texts if it not in values), " ".join(titles)
     yield "says of bars", Texts(picture).of("desc"), [
-        ", ".join(f"{title} {signed(value, 2)}" for title, (value, _) in zip(titles, found)) + "."
+        ", ".join(f"{title} {signed(value, 2)}" for title, (value, _) in zip(titles, matching_codes)) + "."
     ]
-    low, high = min([Fraction(0), *(it for it, _ in found)]), max([Fraction(0), *(it for it, _ in found)])
+    low, high = min([Fraction(0), *(code for code, _ in matching_codes)]), max(
+        [Fraction(0), *(code for code, _ in matching_codes)]
+    )
     span = high - low or Fraction(1)
     form = r'<path (fill="#[0-9a-f]{6}") d="M([0-9.]+) [0-9]+h([0-9.]+)v9h-\3z"/>'
     bars = re.findall(form, picture)
     wrong = []
-    for (fill, begin, size), (value, code) in zip(bars, found):
+    for (fill, begin, size), (value, code) in zip(bars, matching_codes):
         at, long = 400 * (min(value, Fraction(0)) - low) / span, max(float(400 * abs(value) / span), 0.6)
         is_right = abs(float(begin) - at) <= NEAR and abs(float(size) - long) <= NEAR
         if not is_right or fill != f'fill="{("#0a5c7d", "#b1521d")[value < 0]}"':
             wrong.append(code)
-    yield "bars", (len(bars), wrong), (len(found), [])
+    yield "bars", (len(bars), wrong), (len(matching_codes), [])
 
 
 def of_release(site: Path, then: Then) -> Wanted:
@@ -201,10 +208,10 @@ def of_card(site: Path, kept: Mapping[str, bytes], then: Then) -> Wanted:
     if svg is None:
         return
     root = ElementTree.fromstring(svg)
-    texts = [(it.get("font-size"), "".join(it.itertext())) for it in root.iter(f"{SVG}text")]
+    texts = [(element.get("font-size"), "".join(element.itertext())) for element in root.iter(f"{SVG}text")]
     values = changes(then.known, then.month, then.is_annual)
     first = previous_by(then.month, CARD_MONTHS - 1)
-    values = [it for it in values if it[0] >= first]
+    values = [value for value in values if value[0] >= first]
     yield "card: head", texts[0][1], f"{NAME}, {then.called}"
     yield "card: headline", " ".join(said for size, said in texts if size == "46"), then.headline
     change = "Annual change" if then.is_annual else "Monthly change"
@@ -222,8 +229,10 @@ def previous_by(month: str, by: int) -> str:
 
 def bars_of_card(root: ElementTree.Element, values: Sequence[tuple[str, Fraction]]) -> Wanted:
     """The bars of a card: as long as their values, from one line."""
-    bars = [[float(it.get(name, "")) for name in ("x", "y", "height")] for it in [*root.iter(f"{SVG}rect")][2:]]
-    (zero,) = (float(it.get("d", "").split(" ")[1].split("H")[0]) for it in root.iter(f"{SVG}path"))
+    bars = [
+        [float(element.get(name, "")) for name in ("x", "y", "height")] for element in [*root.iter(f"{SVG}rect")][2:]
+    ]
+    (zero,) = (float(element.get("d", "").split(" ")[1].split("H")[0]) for element in root.iter(f"{SVG}path"))
     longest = max(height for _, _, height in bars)
     most = max(abs(value) for _, value in values)
     wrong = []
@@ -246,7 +255,7 @@ def drawn_faults(site: Path, known: Figures, all_of_them: Sequence[Then], kept: 
     then = all_of_them[-1]._replace(known=known)
     for kind, codes in (("contributions", known.below(ALL)), ("sets", [*known.sets])):
         bars = (site / f"picture/00-{kind}.svg").read_text(encoding="utf-8")
-        looked_at += [("index.html", *it) for it in bar_faults(bars, then, codes, kind == "contributions")]
+        looked_at += [("index.html", *fault) for fault in bar_faults(bars, then, codes, kind == "contributions")]
     for then in all_of_them:
         looked_at += [(f"release {then.name}", *it) for it in of_release(site, then)]
         looked_at += [(f"release {then.name}", *it) for it in of_card(site, svgs, then)]

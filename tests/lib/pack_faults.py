@@ -110,16 +110,16 @@ def vintage_rows(known: Figures, tables: Reopened, all_tables: Mapping[Id, Month
 
 def set_vintages(known: Figures, tables: Mapping[Id, Month]) -> dict[tuple[str, str], list[Row]]:
     """By month and set the rows that a later publication changed, as they were in each publication."""
-    found, last, revision_of = dict[tuple[str, str], list[Row]](), dict[str, Month](), dict[str, int]()
+    vintages, last, revision_of = dict[tuple[str, str], list[Row]](), dict[str, Month](), dict[str, int]()
     for (month, revision), table in by_moment(tables):
         last[month], revision_of[month] = table, revision
         for name, lines in lines_of_sets(last, known.sets).items():
             for at, line in lines.items():
                 row = {**line_row(known, at, name, line, revision_of[at]), "published": moment(month, revision)}
-                rows = found.setdefault((at, name), [])
+                rows = vintages.setdefault((at, name), [])
                 if not rows or any(rows[-1][of] != row[of] for of in OF_A_FIGURE):
                     rows.append(row)
-    return {of: rows for of, rows in found.items() if len(rows) > 1}
+    return {of: rows for of, rows in vintages.items() if len(rows) > 1}
 
 
 OF_A_FIGURE = ("weight", "index", "chained", "month_change", "year_change", "imputed")
@@ -135,9 +135,9 @@ def earlier_rows(known: Figures, tables: Reopened, code: str) -> Iterator[Row]:
 
 def reason_rows() -> Iterator[Row]:
     """The reasons for the revisions of months."""
-    for (month, revision), found in sorted(reasons().items()):
+    for (month, revision), reason in sorted(reasons().items()):
         own = {"month": month, "revision": str(revision), "added": moment(month, revision)}
-        yield from ({**own, **said} for said in found)
+        yield from ({**own, **said} for said in reason)
 
 
 ADDED = ("shown_month_change", "shown_year_change", "contribution_month", "contribution_year")
@@ -148,7 +148,7 @@ def item_rows(known: Figures, code: str) -> Iterator[Row]:
     """The rows of the file of an item: its contributions to all items (all items contribute their own change to
     themselves), the changes on pages, and the letters of its notes."""
     for row in table_rows(known, [code]):
-        changes = [text(it, 1) for it in known.changes(code, row["month"])]
+        changes = [text(change, 1) for change in known.changes(code, row["month"])]
         given = known.given(row["month"], code, ALL)
         added = (*changes, text(given.to_month, 6), text(given.to_year, 6))
         yield {**row, **dict(zip(ADDED, added)), "notes": known.notes(code, row["month"])}
@@ -300,7 +300,7 @@ def item_id(code: str) -> str:
 
 def observations(known: Figures) -> Observations:
     """All figures in the form of SDMX."""
-    found: Observations = {}
+    observations: Observations = {}
     for code, lines in known.lines.items():
         for month in known.months:
             line, given = lines.get(month), known.given(month, code, ALL) if code != ALL else Given(None, None)
@@ -311,18 +311,18 @@ def observations(known: Figures) -> Observations:
                     imputed = str(int(line.is_imputed)) if line else ""
                     key, number = ("M", measure, unit, item_id(code), kind, month), latest_of(month)
                     of = imputed, str(number), moment(month, number)
-                    found[key] = text(value, digits), period, str(digits), status, *of
+                    observations[key] = text(value, digits), period, str(digits), status, *of
         for year in full_years(known):
             mean, changed = known.mean(code, year), known.mean_change(code, year)
             if mean:
                 base = lines[f"{year}-01"].base
                 shown = text(known.shown(code, base, mean), 6)
                 status = "B" if lines[f"{year}-01"].is_break else "A"
-                last = status, "", "", max(moment(it, latest_of(it)) for it in months_of(year))
-                found["A", "CPI", "IX", item_id(code), "N", year] = shown, known.hundred(code, base), "6", *last
+                last = status, "", "", max(moment(month, latest_of(month)) for month in months_of(year))
+                observations["A", "CPI", "IX", item_id(code), "N", year] = shown, known.hundred(code, base), "6", *last
                 if changed is not None:
-                    found["A", "CPI", "PC", item_id(code), "G1", year] = text(changed, 1), "", "1", *last
-    return found
+                    observations["A", "CPI", "PC", item_id(code), "G1", year] = text(changed, 1), "", "1", *last
+    return observations
 
 
 def period_of(known: Figures, code: str, line: Line, measure: str) -> str:
@@ -373,21 +373,25 @@ Cells = dict[tuple[str, ...], Decimal]
 
 def cells(known: Figures) -> Cells:
     """All figures in the form of cubes."""
-    found: dict[tuple[str, str, str], Optional[Fraction]] = {}
+    fractions: dict[tuple[str, str, str], Optional[Fraction]] = {}
     for code, lines in known.lines.items():
         for month, line in lines.items():
-            found[code, "index", month] = known.shown(code, line.base, line.level)
-            found[code, "chained", month] = line.level
-            found[code, "month_change", month] = line.monthly
-            found[code, "year_change", month] = line.annual
-            found[code, "weight", month] = Fraction(line.weight)
-            found[code, "share", month] = per_mille(known, line, month)
-            found[code, "imputed", month] = Fraction(line.is_imputed)
+            fractions[code, "index", month] = known.shown(code, line.base, line.level)
+            fractions[code, "chained", month] = line.level
+            fractions[code, "month_change", month] = line.monthly
+            fractions[code, "year_change", month] = line.annual
+            fractions[code, "weight", month] = Fraction(line.weight)
+            fractions[code, "share", month] = per_mille(known, line, month)
+            fractions[code, "imputed", month] = Fraction(line.is_imputed)
         if code != ALL:
             for month in known.months:
-                found[code, "contribution", month] = known.given(month, code, ALL).to_year
+                fractions[code, "contribution", month] = known.given(month, code, ALL).to_year
     digits = {"index": 6, "chained": 6, "contribution": 6, "share": 6}
-    return {key: Decimal(text(it, digits.get(key[1], 1))) for key, it in found.items() if it is not None}
+    return {
+        key: Decimal(text(fraction, digits.get(key[1], 1)))
+        for key, fraction in fractions.items()
+        if fraction is not None
+    }
 
 
 def cube_faults(site: Path, known: Figures) -> Iterator[str]:

@@ -58,7 +58,7 @@ def sets_of_the_nation() -> Sets:
     def has(name: str, code: str) -> bool:
         if name not in rows:
             return name == ALL or code.startswith(name)
-        inside, outside = (any(has(it, code) for it in rows[name][column].split()) for column in ("in", "out"))
+        inside, outside = (any(has(word, code) for word in rows[name][column].split()) for column in ("in", "out"))
         return inside and not outside
 
     return {name: Named(row["title"], partial(has, name)) for name, row in rows.items()}
@@ -85,11 +85,11 @@ def months_of(year: str) -> list[str]:
     return [f"{year}-{number:02}" for number in range(1, 13)]
 
 
-def lines_of_nodes(found: Mapping[str, Month]) -> dict[str, Lines]:
+def lines_of_nodes(months: Mapping[str, Month]) -> dict[str, Lines]:
     """All nodes: a level begins at 100 in the December before the node comes, and again if the node left and
     returns."""
     lines: dict[str, Lines] = {}
-    for month, it in sorted(found.items()):
+    for month, it in sorted(months.items()):
         for row in it.rows:
             own = lines.setdefault(row.code, {})
             before = own.get(previous(month))
@@ -108,10 +108,19 @@ def lines_of_sets(found: Mapping[str, Month], sets: Sets) -> dict[str, Lines]:
     lines: dict[str, Lines] = {}
     for name, (_, is_in) in sets.items():
         members = {month: {code for code in rows if is_in(code)} for month, rows in months.items()}
-        for month, it in figures(months, is_in).items():
+        for month, figure in figures(months, is_in).items():
             own, then = lines.setdefault(name, {}), members.get(previous(month))
             is_break = bool(own) and then != members[month]
-            own[month] = Line(it.weight, it.within, it.level, it.monthly, it.annual, it.is_imputed, it.base, is_break)
+            own[month] = Line(
+                figure.weight,
+                figure.within,
+                figure.level,
+                figure.monthly,
+                figure.annual,
+                figure.is_imputed,
+                figure.base,
+                is_break,
+            )
     return lines
 
 
@@ -129,19 +138,19 @@ class Figures:
 
     def __init__(
         self,
-        found: Mapping[str, Month],
+        months: Mapping[str, Month],
         sets: Sets,
         year: str,
         is_from_printed: bool = False,
         first: Mapping[tuple[str, str], Row] = {},
     ) -> None:
-        self.months, self.year, self.is_from_printed = sorted(found), year, is_from_printed
+        self.months, self.year, self.is_from_printed = sorted(months), year, is_from_printed
         self.first = first
-        nodes = lines_of_nodes(found)
+        nodes = lines_of_nodes(months)
         self.nodes = sorted(nodes)
         self.sets = sets
-        self.lines = {**{code: nodes[code] for code in self.nodes}, **lines_of_sets(found, sets)}
-        titles = {row.code: row.title for month in self.months for row in found[month].rows}
+        self.lines = {**{code: nodes[code] for code in self.nodes}, **lines_of_sets(months, sets)}
+        titles = {row.code: row.title for month in self.months for row in months[month].rows}
         self.titles = {**titles, **{name: it.title for name, it in sets.items()}}
         self.means = {code: self.mean(code, year) for code in self.lines}
         self.given = cache(self._given)  # (most forms have what an item gives to all items)
@@ -253,8 +262,8 @@ class Figures:
     def below(self, code: str) -> list[str]:
         """The nodes next below one; for a set, the largest nodes that lie completely in it."""
         if code not in self.sets:
-            return [it for it in self.nodes if above(it) == code]
-        return [it for it in self.nodes if it in self._whole(code) and above(it) not in self._whole(code)]
+            return [node for node in self.nodes if above(node) == code]
+        return [node for node in self.nodes if node in self._whole(code) and above(node) not in self._whole(code)]
 
     @cache
     def _whole(self, name: str) -> frozenset[str]:

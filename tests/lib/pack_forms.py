@@ -27,7 +27,7 @@ def read_json_stat(path: Path) -> tuple[dict[str, Any], dict[tuple[str, ...], in
     """A dataset, and the place of each cell: the last dimension moves first (JSON-stat 2.0, value)."""
     data = json.loads(path.read_text(encoding="utf-8"), parse_float=Decimal, parse_int=Decimal)
     ids = [data["dimension"][name]["category"]["index"] for name in data["id"]]
-    assert [len(it) for it in ids] == [int(it) for it in data["size"]]
+    assert [len(index) for index in ids] == [int(it) for it in data["size"]]
     return data, {key: at for at, key in enumerate(itertools.product(*ids))}
 
 
@@ -36,19 +36,19 @@ def read_px(path: Path) -> tuple[dict[str, list[str]], list[str]]:
     marks, strings that follow each other without a comma are one, and a comma separates values."""
     text = path.read_text(encoding="utf-8")
     head, _, data = text.partition("DATA=")
-    found: dict[str, list[str]] = {}
+    pxes: dict[str, list[str]] = {}
     for part in re.findall(r'((?:"[^"]*"|[^";])*);', head):
         keyword, _, value = next(
-            (part[: it.start()], "=", part[it.end() :])
-            for it in re.finditer("=", part)
-            if part[: it.start()].count('"') % 2 == 0
+            (part[: match.start()], "=", part[match.end() :])
+            for match in re.finditer("=", part)
+            if part[: match.start()].count('"') % 2 == 0
         )
         joined = re.sub(r'"\s*\n\s*"', "", value)
         values = re.findall(r'"([^"]*)"|([^\s",]+(?:\([^)]*\))?)', joined)
         name = " ".join(re.sub(r'"\s*\n\s*"', "", keyword).split())
-        assert name not in found, name
-        found[name] = [one or other for one, other in values]
-    return found, data.strip().removesuffix(";").split()
+        assert name not in pxes, name
+        pxes[name] = [one or other for one, other in values]
+    return pxes, data.strip().removesuffix(";").split()
 
 
 def px_cells(path: Path) -> dict[tuple[str, str, str], str]:
@@ -80,12 +80,12 @@ def read_sheets(path: Path) -> dict[str, dict[str, tuple[str, int]]]:
     """The sheets of a workbook (ECMA-376) by name: by place like `C2`, the text or number of a cell, and its style."""
     with zipfile.ZipFile(path) as archive:
         relations = ElementTree.fromstring(archive.read("xl/_rels/workbook.xml.rels"))
-        targets = {it.attrib["Id"]: it.attrib["Target"] for it in relations}
+        targets = {relation.attrib["Id"]: relation.attrib["Target"] for relation in relations}
         sheets = ElementTree.fromstring(archive.read("xl/workbook.xml")).iter(f"{SHEETS}sheet")
-        found = {it.attrib["name"]: f"xl/{targets[it.attrib[f'{{{OFFICE}}}id']]}" for it in sheets}
-        return {name: _cells(archive.read(member)) for name, member in found.items()}
+        texts = {sheet.attrib["name"]: f"xl/{targets[sheet.attrib[f'{{{OFFICE}}}id']]}" for sheet in sheets}
+        return {name: _cells(archive.read(member)) for name, member in texts.items()}
 
 
 def _cells(sheet: bytes) -> dict[str, tuple[str, int]]:
     cells = ElementTree.fromstring(sheet).iter(f"{SHEETS}c")
-    return {it.attrib["r"]: ("".join(it.itertext()), int(it.attrib.get("s", 0))) for it in cells}
+    return {cell.attrib["r"]: ("".join(cell.itertext()), int(cell.attrib.get("s", 0))) for cell in cells}

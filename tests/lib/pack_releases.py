@@ -52,8 +52,8 @@ def headline_faults(then: Then, page: Texts) -> Wanted:
     cards = {"Annual change": percent(annual)} if then.is_annual else {}
     cards |= {"Monthly change": percent(monthly), f"Index, {hundred}\u00a0=\u00a0100": index}
     figures = re.sub(r"<sup.*?</sup>", "", page.markup, flags=re.S)
-    found = Texts("".join(re.findall('<dl class="cards">(.*?)</dl>', figures, flags=re.S)))
-    yield "figures", dict(zip(found.of("dt"), found.of("dd"))), cards
+    texts = Texts("".join(re.findall('<dl class="cards">(.*?)</dl>', figures, flags=re.S)))
+    yield "figures", dict(zip(texts.of("dt"), texts.of("dd"))), cards
     marks = re.findall(
         r'<sup class="marks"><a href="#notes" aria-label="Notes: ([a-z, ]*)">([a-z]*)</a></sup>', page.markup
     )
@@ -65,15 +65,15 @@ def contribution_table(then: Then, part: Texts, codes: list[str], has_total: boo
     """The contributions of some items to the change of all items, and the bars of the rows."""
     values = [(value, code) for code in codes if (value := then.given(code)) is not None]
     if has_total:
-        values.sort(key=lambda it: (-it[0], it[1]))
+        values.sort(key=lambda value: (-value[0], value[1]))
     total = sum((value for value, _ in values), Fraction())
     rows = [then.row_of(code, value) for value, code in values]
     if has_total:
         rows.append([then.known.titles[ALL], "100.00 %", percent(then.change), signed(total, 2), ""])
     yield "contributions", part.rows, rows
-    low, high = min([Fraction(0), *(it for it, _ in values)]), max([Fraction(0), *(it for it, _ in values)])
+    low, high = min([Fraction(0), *(value for value, _ in values)]), max([Fraction(0), *(value for value, _ in values)])
     span = high - low or Fraction(1)
-    bars = [(100 * (min(it, Fraction(0)) - low) / span, 100 * abs(it) / span) for it, _ in values]
+    bars = [(100 * (min(value, Fraction(0)) - low) / span, 100 * abs(value) / span) for value, _ in values]
     apart = [one for one, other in zip(part.bars, bars) if any(abs(a - b) > 0.0051 for a, b in zip(one, other))]
     yield "bars", (len(part.bars), apart), (len(bars), [])
 
@@ -118,16 +118,16 @@ def revisions_of(then: Then, page: Texts) -> Wanted:
     later ones."""
     part = page.part("Revisions")
     yield "revisions", [*part.of("p"), *part.of("li")], [*says_of_revisions(then)]
-    it = then.change_of_it
+    change = then.change_of_it
     yield "greatest differences", part.rows, [
-        [f"{row.title} {row.code}", text(old.level, 3), text(row.level, 3)] for old, row in it.differing[:GREATEST]
-    ] if it else []  # fmt: skip
+        [f"{row.title} {row.code}", text(old.level, 3), text(row.level, 3)] for old, row in change.differing[:GREATEST]
+    ] if change else []  # fmt: skip
     told = [it for it in page.of("p") if it.startswith("Why the office revised this month: ")]
-    yield "reasons", told, [f"Why the office revised this month: {it}" for it in then.reasons]
+    yield "reasons", told, [f"Why the office revised this month: {reason}" for reason in then.reasons]
     later = [it for it in page.of('p class="result"') if it.startswith("Revision ")]
-    numbers = [it for it in revisions(then.month) if it > then.revision]
+    numbers = [revision for revision in revisions(then.month) if revision > then.revision]
     yield "later revisions", later, [
-        f"Revision {it} of {named(then.month)} was published {day(then.month, it)}." for it in numbers
+        f"Revision {number} of {named(then.month)} was published {day(then.month, number)}." for number in numbers
     ]
     notes = [it for it in page.of('p class="note"') if " was revised on " in it]
     yield "revised bases", notes, [*based_on(then)]
@@ -167,8 +167,8 @@ def based_on(then: Then) -> Iterator[str]:
     for it in then.revised:
         if it.month in figures and it.old[ALL].level != it.new[ALL].level:
             now, old = (then.shown_level(it.month, rows[ALL].level) for rows in (it.new, it.old))
-            found = figures[it.month]
-            counts = ", ".join(found[:-2] + [" and ".join(found[-2:])])
+            figure = figures[it.month]
+            counts = ", ".join(figure[:-2] + [" and ".join(figure[-2:])])
             is_said = (
                 f"its index is {now}, and was {old} before"
                 if now != old
@@ -208,9 +208,9 @@ def why(then: Then) -> Iterator[str]:
             ("No longer in the index from this month on", then.before, then.items),
         ):
             apart = items.keys() - others.keys() if then.before else set[str]()
-            found = [f"{items[it]} {it}" for it in sorted(apart) if above(it) not in apart]
-            if found:
-                yield f"{begin}: {', '.join(found)}."
+            texts = [f"{items[key]} {key}" for key in sorted(apart) if above(key) not in apart]
+            if texts:
+                yield f"{begin}: {', '.join(texts)}."
     if then.since or then.revision > 1:
         yield "Revised figures are used here, including for the previous month and the previous year."
     if then.known.lines[ALL][then.month].is_imputed:
@@ -226,7 +226,7 @@ def why(then: Then) -> Iterator[str]:
 def release_faults(site: Path, tables: Path, all_of_them: list[Then]) -> Iterator[str]:
     """The pages of all releases, the list of them, the feed and the calendar."""
     names = {f"{it.name}.html" for it in all_of_them}
-    if {it.name for it in (site / "release").glob("*.html")} != names:
+    if {path.name for path in (site / "release").glob("*.html")} != names:
         yield "site: the folder of releases has other pages"
     for then in all_of_them:
         for what, says, wanted in page_of(site, tables, then):
@@ -290,6 +290,6 @@ def first_page_faults(site: Path, known: Figures) -> Iterator[str]:
     wanted = f"elementary aggregates that account for {shares[0][1]} percent of the total weight."
     looked_at.append(("imputed", says.endswith(wanted), True))
     looked_at.append(("figures of the picture", page.part("How much was imputed").rows, shares))
-    for what, found, right in looked_at:
-        if found != right:
-            yield f"index.html: {what}: says {found}, wanted {right}"
+    for what, fault, right in looked_at:
+        if fault != right:
+            yield f"index.html: {what}: says {fault}, wanted {right}"

@@ -68,7 +68,7 @@ def newest_faults(folder: Path, known: Figures, wanted: Observations) -> Iterato
     of_month = {key: it for key, it in wanted.items() if key[-1] == month}
     yield from apart("newest, CSV", observed(rows_of_csv(folder / "cpi.sdmx.csv")), of_month)
     yield from apart("newest, XML", observed(read_sdmx_ml(folder / "cpi.sdmx.xml")), of_month)
-    figures = {key: it for key, it in cells(known).items() if key[2] == month}
+    figures = {key: cell for key, cell in cells(known).items() if key[2] == month}
     px: Cells = {key: Decimal(cell) for key, cell in px_cells(folder / "cpi.px").items()}
     yield from apart("newest, PX", px, figures)
     yield from cube_faults(folder / "cpi.jsonstat.json", figures)
@@ -156,8 +156,8 @@ def path_faults(folder: Path, known: Figures, wanted: Observations) -> Iterator[
 def item_faults(folder: Path, known: Figures) -> Iterator[str]:
     """The cube of each item, and their collection."""
     by_item: dict[str, Cells] = {code: {} for code in known.lines}
-    for key, it in cells(known).items():
-        by_item[key[0]][key] = it
+    for key, cell in cells(known).items():
+        by_item[key[0]][key] = cell
     for code, figures in by_item.items():
         yield from cube_faults(folder / f"{code}.json", figures)
     found = json.loads((folder / "index.json").read_bytes())
@@ -170,7 +170,7 @@ def cube_faults(path: Path, figures: Cells) -> Iterator[str]:
     """A cube of JSON-stat."""
     data, places = read_json_stat(path)
     values: Cells = {key: data["value"][at] for key, at in places.items() if data["value"][at] is not None}
-    yield from apart(path.name, values, {key: it for key, it in figures.items() if key[1] != "imputed"})
-    imputed = {key[0::2] for key, it in figures.items() if key[1] == "imputed" and it}
+    yield from apart(path.name, values, {key: figure for key, figure in figures.items() if key[1] != "imputed"})
+    imputed = {key[0::2] for key, figure in figures.items() if key[1] == "imputed" and figure}
     marked = {key[0::2] for key, at in places.items() if key[1] == "index" and "i" in data["status"].get(str(at), "")}
     yield from apart(path.name, dict.fromkeys(marked), dict.fromkeys(imputed))

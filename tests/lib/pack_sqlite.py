@@ -34,15 +34,15 @@ def rows_of_sqlite(path: Path) -> dict[str, list[dict[str, str]]]:
     with contextlib.closing(sqlite3.connect(f"file:{path}?mode=ro", uri=True)) as link:
         assert link.execute("PRAGMA integrity_check").fetchall() == [("ok",)]
         tables = [name for (name,) in link.execute("SELECT name FROM sqlite_master WHERE type = 'table' ORDER BY name")]
-        found = {}
+        rows = {}
         for table in tables:
             asked = link.execute(f"SELECT * FROM {table} ORDER BY rowid")
             columns = [head[0] for head in asked.description]
-            found[table] = [
+            rows[table] = [
                 {there.get(column, column): shown(table, column, value) for column, value in zip(columns, row)}
                 for row in asked
             ]
-        return found
+        return rows
 
 
 def sqlite_faults(path: Path, wanted: Mapping[str, Iterable[Mapping[str, str]]]) -> Iterator[str]:

@@ -67,7 +67,7 @@ class Then(NamedTuple):
     @property
     def reasons(self) -> list[str]:
         """The reasons why the month was revised."""
-        return [it["reason"] for it in reasons().get((self.month, self.revision), [])]
+        return [reason["reason"] for reason in reasons().get((self.month, self.revision), [])]
 
     @property
     def letters(self) -> str:
@@ -134,7 +134,7 @@ def moved(change: Fraction) -> str:
 def releases(tables: Mapping[Id, Month], year: str, is_from_printed: bool = False) -> list[Then]:
     """Each release, by month and revision, with the figures of all items, divisions and groups that were known then;
     the year and the rule come from `Figures`."""
-    found, out, last = list[Then](), dict[Id, Month](), dict[str, Month]()
+    releases, out, last = list[Then](), dict[Id, Month](), dict[str, Month]()
     for (month, revision), table in by_moment(tables):
         out[month, revision] = last[month] = table
         both = (last[it].rows if it in last else [] for it in (month, previous(month)))
@@ -142,15 +142,15 @@ def releases(tables: Mapping[Id, Month], year: str, is_from_printed: bool = Fals
         few = {it: known._replace(rows=[row for row in known.rows if depth(row.code) <= 2])
                for it, known in last.items() if it <= month}  # fmt: skip
         known = Figures(few, {}, year, is_from_printed, changed(out))
-        found.append(Then(month, known, items, before, revision, dict(out)))
-    return sorted(found, key=lambda it: (it.month, it.revision))
+        releases.append(Then(month, known, items, before, revision, dict(out)))
+    return sorted(releases, key=lambda release: (release.month, release.revision))
 
 
 def lead(then: Then) -> str:
     """The largest contribution to the change, and the largest one against it."""
     values = [(value, code) for code in then.known.below(ALL) if (value := then.given(code)) is not None]
     way = -1 if then.change < 0 else 1
-    ends = sorted(values, key=lambda it: (-it[0] * way, it[1]))
+    ends = sorted(values, key=lambda value: (-value[0] * way, value[1]))
     told = []
     total = signed(sum((value for value, _ in values), Fraction()), 1)
     for (value, code), begin in ((ends[0], "The largest contribution came from"), (ends[-1], "")):

@@ -59,13 +59,13 @@ def changed(tables: Mapping[Id, Month]) -> dict[tuple[str, str], Row]:
 def reasons() -> dict[Id, list[dict[str, str]]]:
     """The office's reasons for revising months, in its own words: the columns of its file whose names begin with
     `reason`, one per language."""
-    found: dict[Id, list[dict[str, str]]] = {}
+    reasons: dict[Id, list[dict[str, str]]] = {}
     for row in data("revisions"):
         said = {name: text for name, text in row.items() if name.startswith("reason")}
-        found.setdefault((row["month"], int(row["revision"])), []).append(said)
-    return found
+        reasons.setdefault((row["month"], int(row["revision"])), []).append(said)
+    return reasons
 
 
 def by_moment(tables: Mapping[Id, Month]) -> Iterator[tuple[Id, Month]]:
     """The tables in the order in which they were published."""
-    yield from sorted(tables.items(), key=lambda it: published_at(*it[0]))
+    yield from sorted(tables.items(), key=lambda table: published_at(*table[0]))

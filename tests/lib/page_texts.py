@@ -32,17 +32,17 @@ class Texts:
         """The texts of all elements like `h1` or `p class="lead"`."""
         name = element.split(" ")[0]
         form = f"<{element}>" if " " in element else rf"<{name}\b[^>]*>"
-        return [plain(it) for it in re.findall(rf"{form}(.*?)</{name}>", self.markup, flags=re.S)]
+        return [plain(element) for element in re.findall(rf"{form}(.*?)</{name}>", self.markup, flags=re.S)]
 
     def said(self, name: str) -> list[str]:
         """The contents of its `meta` elements with a name."""
-        found = re.findall(rf'<meta (?:name|property)="{name}" content="([^"]*)">', self.markup)
-        return [html.unescape(it) for it in found]
+        matches = re.findall(rf'<meta (?:name|property)="{name}" content="([^"]*)">', self.markup)
+        return [html.unescape(match) for match in matches]
 
     def part(self, heading: str) -> Texts:
         """The part between a heading and the next one."""
-        for it in re.split(r"<h2\b[^>]*>", self.markup)[1:]:
-            head, _, rest = it.partition("</h2>")
+        for word in re.split(r"<h2\b[^>]*>", self.markup)[1:]:
+            head, _, rest = word.partition("</h2>")
             if plain(head) == heading:
                 return Texts(rest)
         return Texts("")
@@ -50,9 +50,9 @@ class Texts:
     @property
     def rows(self) -> Rows:
         """The cells of its tables, row by row, without the cells of heads."""
-        found = re.findall(r"<tr\b[^>]*>(.*?)</tr>", self.markup, flags=re.S)
+        matches = re.findall(r"<tr\b[^>]*>(.*?)</tr>", self.markup, flags=re.S)
         cells = [
-            re.findall(r"<t[hd]\b[^>]*>(.*?)</t[hd]>", row, flags=re.S) for row in found if 'scope="col"' not in row
+            re.findall(r"<t[hd]\b[^>]*>(.*?)</t[hd]>", row, flags=re.S) for row in matches if 'scope="col"' not in row
         ]
         return [[plain(cell) for cell in row] for row in cells]
 
@@ -61,5 +61,5 @@ class Texts:
         """The starts and lengths of the bars in its tables, in percent of their track; none if the bars for narrow
         screens differ."""
         form = r'<span class="track (?:narrow)?" aria-hidden="true"><i[^>]* style="left:([0-9.]+)%;width:([0-9.]+)%">'
-        found = [(float(left), float(width)) for left, width in re.findall(form, self.markup)]
-        return found[::2] if found[::2] == found[1::2] else []
+        floats = [(float(left), float(width)) for left, width in re.findall(form, self.markup)]
+        return floats[::2] if floats[::2] == floats[1::2] else []

@@ -39,8 +39,8 @@ programmers."""
 
 FOR_READERS = {
     "README.md",
-    *(f"docs/decide/{it}.md" for it in ("PROMISE", "COMPARED")),
-    *(f"docs/desk/{it}.md" for it in ("DESK", "COLLECTING", "PHONE")),
+    *(f"docs/decide/{text}.md" for text in ("PROMISE", "COMPARED")),
+    *(f"docs/desk/{text}.md" for text in ("DESK", "COLLECTING", "PHONE")),
 }
 
 CODE = re.compile(r"^```(?s:.*?)^```$|(?<=\n\n)(?: {4}.*\n)+", re.M)
@@ -67,7 +67,7 @@ def forms_of(sentence: str) -> list[str]:
 
 def english_faults(name: str, text: str) -> Iterator[str]:
     every = list(sentences(text))
-    found = [it for it in every if forms_of(it)]
+    found = [sentence for sentence in every if forms_of(sentence)]
     bound = MOST_FOR_READERS if name in FOR_READERS else MOST
     if 100 * len(found) > bound * len(every):
         yield f"{len(found)} of {len(every)} sentences have a form to change (tests/lib/plain_english.py), over {bound} percent"
@@ -78,7 +78,7 @@ def main() -> None:
     for path in sys.argv[1:]:
         with open(path, encoding="utf-8") as file:
             every = list(sentences(file.read()))
-        told = [(it, forms) for it in every if (forms := forms_of(it))]
+        told = [(sentence, forms) for sentence in every if (forms := forms_of(sentence))]
         for sentence, forms in told:
             print(f"{path}: {sentence} [{'; '.join(forms)}]")
         print(f"{path}: {len(told)} of {len(every)}, {-(-100 * len(told) // max(1, len(every)))} percent")

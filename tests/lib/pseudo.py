@@ -31,8 +31,8 @@ def pseudo(text: str, language: str) -> str:
     """A text in a language; its places and tags stay, and so do signs and figures."""
     letters = LETTERS[language]
 
-    def longer(found: re.Match[str]) -> str:
-        word = found[0].lower()
+    def longer(match: re.Match[str]) -> str:
+        word = match[0].lower()
         more = round(LONGER * len(word) + 0.5)
         return "".join(letters[each] for each in word + (word * 2)[:more])
 

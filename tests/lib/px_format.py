@@ -96,8 +96,8 @@ class Px(NamedTuple):
 
     def values(self, name: str, *of: str, language: str = "") -> tuple[str, ...]:
         """The values of a keyword; none if the keyword is missing."""
-        found = (it.values for it in self.said if (it.name, it.language, it.of) == (name, language, of))
-        return next(found, ())
+        values = (it.values for it in self.said if (it.name, it.language, it.of) == (name, language, of))
+        return next(values, ())
 
 
 def read_strictly(text: str) -> Px:
@@ -106,10 +106,10 @@ def read_strictly(text: str) -> Px:
     if not parts or parts[-1][0] != "DATA":
         raise NotPx("DATA: it isn't the last keyword")
     said = [_said(head, value) for head, value in parts[:-1]]
-    found = Px(said, parts[-1][1].split())
+    px = Px(said, parts[-1][1].split())
     for rule in (_test_lines, _test_once, _test_order, _test_mandatory, _test_languages, _test_variables, _test_cells):
-        rule(text, found)
-    return found
+        rule(text, px)
+    return px
 
 
 # ---- reading
@@ -137,63 +137,63 @@ def _statements(text: str) -> Iterator[tuple[str, str]]:
 
 def _texts(value: str) -> Optional[tuple[str, ...]]:
     """Texts in quotation marks between commas, of which each may go on in further lines; None if it is anything else."""
-    found, rest = list[str](), value
+    texts, rest = list[str](), value
     while True:
-        it = re.match(r'\s*"([^"]*)"((?:\s*\n\s*"[^"]*")*)\s*', rest)
-        if not it:
+        match = re.match(r'\s*"([^"]*)"((?:\s*\n\s*"[^"]*")*)\s*', rest)
+        if not match:
             return None
-        found.append(it[1] + "".join(re.findall(r'"([^"]*)"', it[2])))
-        rest = rest[it.end() :]
+        texts.append(match[1] + "".join(re.findall(r'"([^"]*)"', match[2])))
+        rest = rest[match.end() :]
         if not rest:
-            return tuple(found)
+            return tuple(texts)
         if not rest.startswith(","):
             return None
         rest = rest[1:]
 
 
 def _said(head: str, value: str) -> Said:
-    it = HEAD.fullmatch(head)
-    keyword = _keyword(it[1], bool(it[3])) if it else None
-    if it is None or keyword is None:
+    match = HEAD.fullmatch(head)
+    keyword = _keyword(match[1], bool(match[3])) if match else None
+    if match is None or keyword is None:
         raise NotPx(f"{head.splitlines()[0] if head else 'nothing'}: the format has no such keyword")
-    of = _texts(it[3]) if it[3] is not None else ()
+    of = _texts(match[3]) if match[3] is not None else ()
     if of is None:
         raise NotPx(f"{head}: what is in brackets isn't texts")
     if keyword.of is not None and len(of) != keyword.of:
-        raise NotPx(f"{it[1]}: it is said of {len(of)}, wanted {keyword.of}")
-    if it[2] and not keyword.has_language:
-        raise NotPx(f"{it[1]}: it has no language")
-    return Said(it[1], it[2] or "", of, _values(keyword, value))
+        raise NotPx(f"{match[1]}: it is said of {len(of)}, wanted {keyword.of}")
+    if match[2] and not keyword.has_language:
+        raise NotPx(f"{match[1]}: it has no language")
+    return Said(match[1], match[2] or "", of, _values(keyword, value))
 
 
 def _keyword(name: str, has_brackets: bool) -> Optional[Keyword]:
     """A keyword of the list by its name, and whether it is said of something."""
-    found = [it for it in ORDER if it.name == name]
-    apart = [it for it in found if it.of is None or (it.of != 0) == has_brackets]
-    return next(iter(apart or found), None)
+    keywords = [keyword for keyword in ORDER if keyword.name == name]
+    apart = [keyword for keyword in keywords if keyword.of is None or (keyword.of != 0) == has_brackets]
+    return next(iter(apart or keywords), None)
 
 
 def _values(keyword: Keyword, value: str) -> tuple[str, ...]:
     """The values of a keyword, which must be of the kind in the list."""
-    found = FORMS[keyword.kind](value)
-    if found is None:
+    forms = FORMS[keyword.kind](value)
+    if forms is None:
         raise NotPx(f"{keyword.name}: {value[:40]!r} isn't {keyword.kind}")
     if keyword.kind == NUMBER:
-        if int(found[0]) > keyword.most:
-            raise NotPx(f"{keyword.name}: {found[0]} is more than {keyword.most}")
-    elif max(map(len, found)) > keyword.most:
+        if int(forms[0]) > keyword.most:
+            raise NotPx(f"{keyword.name}: {forms[0]} is more than {keyword.most}")
+    elif max(map(len, forms)) > keyword.most:
         raise NotPx(f"{keyword.name}: a text has more than {keyword.most} letters")
-    return found
+    return forms
 
 
 def _one_text(value: str) -> Optional[tuple[str, ...]]:
-    found = _texts(value)
-    return found if found and len(found) == 1 else None
+    texts = _texts(value)
+    return texts if texts and len(texts) == 1 else None
 
 
 def _moment(value: str) -> Optional[tuple[str, ...]]:
-    found = _one_text(value)
-    return found if found and MOMENTS.fullmatch(found[0]) else None
+    text = _one_text(value)
+    return text if text and MOMENTS.fullmatch(text[0]) else None
 
 
 def _word(*words: str) -> Callable[[str], Optional[tuple[str, ...]]]:
@@ -206,9 +206,9 @@ def _number(value: str) -> Optional[tuple[str, ...]]:
 
 def _times(value: str) -> Optional[tuple[str, ...]]:
     """`TLIST(M1),"202401","202402"`."""
-    it = re.match(r"TLIST\(([AHQMW]1)\)\s*,", value)
-    found = _texts(value[it.end() :]) if it else None
-    return found if it and found and all(re.fullmatch(PERIODS[it[1]], time) for time in found) else None
+    match = re.match(r"TLIST\(([AHQMW]1)\)\s*,", value)
+    texts = _texts(value[match.end() :]) if match else None
+    return texts if match and texts and all(re.fullmatch(PERIODS[match[1]], time) for time in texts) else None
 
 
 FORMS: Mapping[str, Callable[[str], Optional[tuple[str, ...]]]] = {
@@ -226,18 +226,18 @@ def _test_lines(text: str, _: Px) -> None:
             raise NotPx(f"line {number} has {len(line)} letters, more than {LONGEST_LINE}")
 
 
-def _test_once(_: str, found: Px) -> None:
+def _test_once(_: str, px: Px) -> None:
     seen = set[tuple[str, str, tuple[str, ...]]]()
-    for it in found.said:
+    for it in px.said:
         if it[:3] in seen:
             raise NotPx(f"{it.name}: it is there twice{_of(it)}")
         seen.add(it[:3])
 
 
-def _test_order(_: str, found: Px) -> None:
+def _test_order(_: str, px: Px) -> None:
     """Tests that keywords are in the order of the list, in each language."""
     last: dict[str, tuple[int, str]] = {}
-    for it in found.said:
+    for it in px.said:
         keyword = _keyword(it.name, bool(it.of))
         assert keyword
         place = ORDER.index(keyword)
@@ -247,76 +247,78 @@ def _test_order(_: str, found: Px) -> None:
         last[it.language] = place, it.name
 
 
-def _test_mandatory(_: str, found: Px) -> None:
-    for tag in _languages(found):
-        there = {it.name for it in found.said if it.language == tag and (it.name != "UNITS" or not it.of)}
+def _test_mandatory(_: str, px: Px) -> None:
+    for tag in _languages(px):
+        there = {it.name for it in px.said if it.language == tag and (it.name != "UNITS" or not it.of)}
         for name in MANDATORY:
             keyword = _keyword(name, False)
             if name not in there and (not tag or keyword and keyword.has_language):
                 raise NotPx(f"{name}: it is missing{f' in {tag}' if tag else ''}")
 
 
-def _languages(found: Px) -> list[str]:
-    return [*dict.fromkeys(it.language for it in found.said)]
+def _languages(px: Px) -> list[str]:
+    return [*dict.fromkeys(it.language for it in px.said)]
 
 
-def _test_languages(_: str, found: Px) -> None:
+def _test_languages(_: str, px: Px) -> None:
     """Tests that the languages of keywords are those that LANGUAGES names."""
-    own, named = found.values("LANGUAGE"), found.values("LANGUAGES")
+    own, named = px.values("LANGUAGE"), px.values("LANGUAGES")
     if named and own[:1] != named[:1]:
         raise NotPx("LANGUAGES: the first one isn't that of LANGUAGE")
-    for tag in _languages(found):
+    for tag in _languages(px):
         if tag and tag not in named[1:]:
             raise NotPx(f"LANGUAGES: it hasn't got {tag}")
 
 
-def _test_variables(_: str, found: Px) -> None:
+def _test_variables(_: str, px: Px) -> None:
     """Each variable has its values, codes as many as values, and what is said of a value is of one that is there."""
-    for tag in _languages(found):
-        names = (*found.values("STUB", language=tag), *found.values("HEADING", language=tag))
-        values = {name: found.values("VALUES", name, language=tag) for name in names}
+    for tag in _languages(px):
+        names = (*px.values("STUB", language=tag), *px.values("HEADING", language=tag))
+        values = {name: px.values("VALUES", name, language=tag) for name in names}
         for name, own in values.items():
             if not own or len({*own}) != len(own):
                 raise NotPx(f"VALUES: of {name} there are none, or two are the same")
             for keyword in ("CODES", "TIMEVAL"):
-                more = found.values(keyword, name, language=tag)
+                more = px.values(keyword, name, language=tag)
                 if more and len(more) != len(own):
                     raise NotPx(f"{keyword}: of {name} there are {len(more)}, and {len(own)} values")
-            if (default := found.values("ELIMINATION", name, language=tag)) and default[0] not in own:
+            if (default := px.values("ELIMINATION", name, language=tag)) and default[0] not in own:
                 raise NotPx(f"ELIMINATION: {name} has no value {default[0]}")
-        for it in found.said:
+        for it in px.said:
             if it.language == tag:
-                _test_of(it, values, found)
+                _test_of(it, values, px)
 
 
-def _test_of(it: Said, values: Mapping[str, Sequence[str]], found: Px) -> None:
+def _test_of(statement: Said, values: Mapping[str, Sequence[str]], px: Px) -> None:
     """Whether what a keyword is said of is there; by the value of a figure are said UNITS, LAST-UPDATED and so on."""
-    figure = found.values("CONTVARIABLE", language=it.language)
-    if it.name in ("VALUES", "CODES", "TIMEVAL", "ELIMINATION") and it.of[0] not in values:
-        raise NotPx(f"{it.name}: there is no variable {it.of[0]}")
-    if it.name in ("UNITS", "LAST-UPDATED", "CONTACT", "BASEPERIOD", "REFPERIOD") and it.of:
-        if not figure or it.of[0] not in values[figure[0]]:
-            raise NotPx(f"{it.name}: {it.of[0]} is no value of the variable of figures")
-    if it.name in ("PRECISION", "VALUENOTE", "VALUENOTEX") and it.of[1] not in values.get(it.of[0], ()):
-        raise NotPx(f"{it.name}: {it.of[0]} has no value {it.of[1]}")
-    if it.name == "PRECISION" and int(it.values[0]) <= int(found.values("SHOWDECIMALS")[0]):
+    figure = px.values("CONTVARIABLE", language=statement.language)
+    if statement.name in ("VALUES", "CODES", "TIMEVAL", "ELIMINATION") and statement.of[0] not in values:
+        raise NotPx(f"{statement.name}: there is no variable {statement.of[0]}")
+    if statement.name in ("UNITS", "LAST-UPDATED", "CONTACT", "BASEPERIOD", "REFPERIOD") and statement.of:
+        if not figure or statement.of[0] not in values[figure[0]]:
+            raise NotPx(f"{statement.name}: {statement.of[0]} is no value of the variable of figures")
+    if statement.name in ("PRECISION", "VALUENOTE", "VALUENOTEX") and statement.of[1] not in values.get(
+        statement.of[0], ()
+    ):
+        raise NotPx(f"{statement.name}: {statement.of[0]} has no value {statement.of[1]}")
+    if statement.name == "PRECISION" and int(statement.values[0]) <= int(px.values("SHOWDECIMALS")[0]):
         raise NotPx("PRECISION: it isn't more than SHOWDECIMALS")
 
 
-def _test_cells(_: str, found: Px) -> None:
+def _test_cells(_: str, px: Px) -> None:
     """As many cells as the values of all variables, each a number or a text of dots."""
     wanted = 1
-    for name in (*found.values("STUB"), *found.values("HEADING")):
-        wanted *= len(found.values("VALUES", name))
-    if len(found.cells) != wanted:
-        raise NotPx(f"DATA: {len(found.cells)} cells, wanted {wanted}")
-    for cell in found.cells:
+    for name in (*px.values("STUB"), *px.values("HEADING")):
+        wanted *= len(px.values("VALUES", name))
+    if len(px.cells) != wanted:
+        raise NotPx(f"DATA: {len(px.cells)} cells, wanted {wanted}")
+    for cell in px.cells:
         if not re.fullmatch(r'-?[0-9]+(\.[0-9]+)?|"(\.{1,6}|-)"', cell):
             raise NotPx(f"DATA: {cell} is no cell")
 
 
-def _of(it: Said) -> str:
-    return f" for {', '.join(it.of)}" if it.of else ""
+def _of(statement: Said) -> str:
+    return f" for {', '.join(statement.of)}" if statement.of else ""
 
 
 def statements_of(text: str) -> list[str]:

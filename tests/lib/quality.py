@@ -107,7 +107,11 @@ def are_spanned(sums: Iterable[frozenset[str]], wanted: frozenset[str]) -> bool:
 def exposed_between(one: Shown, other: Shown, least: int) -> list[frozenset[str]]:
     """The groups of hidden divisions of a release, single ones or of too few outlets, that its figures and those of
     another release give by subtraction, except those that the other release shows itself."""
-    groups = (frozenset(it) for size in range(1, len(one.hidden) + 1) for it in combinations(sorted(one.hidden), size))
+    groups = (
+        frozenset(combination)
+        for size in range(1, len(one.hidden) + 1)
+        for combination in combinations(sorted(one.hidden), size)
+    )
     return [
         group
         for group in groups

@@ -15,10 +15,10 @@ def read_ris(data: bytes) -> list[dict[str, list[str]]]:
         raise ValueError("a line doesn't end with CR and LF")
     records, now = list[dict[str, list[str]]](), dict[str, list[str]]()
     for line in text.split("\r\n")[:-1]:
-        found = LINE.fullmatch(line)
-        if not found:
+        match = LINE.fullmatch(line)
+        if not match:
             raise ValueError(f"{line!r} is no line")
-        tag, value = found.groups()
+        tag, value = match.groups()
         if (tag == "TY") is bool(now):
             raise ValueError(f"{line!r} isn't where it has to be")
         if tag == "ER":

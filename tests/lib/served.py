@@ -66,10 +66,10 @@ SHAKES = [REFUSED, b"cpi: out of memory"]
 """The reasons why the book is reopened: the beginnings of lines on standard error; after the last connection the lines
 end there."""
 
-REPORTS = {*(it + b", opening the file again\n" for it in SHAKES), b"cpi: the file is open again\n", LIMIT}
+REPORTS = {*(shake + b", opening the file again\n" for shake in SHAKES), b"cpi: the file is open again\n", LIMIT}
 """The lines on standard error that don't name the fault of an end."""
 
-LAST_REPORTS = {it + b"\n" for it in SHAKES}
+LAST_REPORTS = {shake + b"\n" for shake in SHAKES}
 """The reports after the last connection, if the program ends well; otherwise the same words can be the fault."""
 
 

@@ -117,7 +117,7 @@ def pytest_collection_modifyitems(config: pytest.Config, items: list[pytest.Item
         (kept if is_kept else left).append(item)
         if not item.get_closest_marker("spread") and not item.get_closest_marker("xdist_group"):
             item.add_marker(pytest.mark.xdist_group(file_of(item.nodeid)))
-    kept.sort(key=lambda it: FIRST.index(file_of(it.nodeid)) if file_of(it.nodeid) in FIRST else len(FIRST))
+    kept.sort(key=lambda item: FIRST.index(file_of(item.nodeid)) if file_of(item.nodeid) in FIRST else len(FIRST))
     items[:] = kept
     if left:
         config.hook.pytest_deselected(items=left)
@@ -134,7 +134,7 @@ def pytest_assertrepr_compare(op: str, left: object, right: object) -> list[str]
 def processor_seconds() -> float:
     """The processor seconds of this process, and of the processes for which it waited."""
     used = [resource.getrusage(who) for who in (resource.RUSAGE_SELF, resource.RUSAGE_CHILDREN)]
-    return sum(it.ru_utime + it.ru_stime for it in used)
+    return sum(getrusage.ru_utime + getrusage.ru_stime for getrusage in used)
 
 
 def pytest_collection_finish(session: pytest.Session) -> None:

@@ -55,31 +55,37 @@ def earlier(month: str, by: int) -> str:
 
 def within(weighed: Iterable[Elementary]) -> Fraction:
     """The weighted mean of indices."""
-    found = [*weighed]
-    summed = sum((Fraction(it.weight) * it.within for it in found), Fraction())
-    return nearest(summed / sum(it.weight for it in found), 10**6)
+    elementaries = [*weighed]
+    summed = sum((Fraction(elementary.weight) * elementary.within for elementary in elementaries), Fraction())
+    return nearest(summed / sum(elementary.weight for elementary in elementaries), 10**6)
 
 
 def figures(months: Months, is_in: Set) -> dict[str, Figures]:
     """A set in each month in which it contains something."""
-    found: dict[str, Figures] = {}
+    figures: dict[str, Figures] = {}
     for month, rows in sorted(months.items()):
         own = [row for code, row in rows.items() if is_in(code)]
         if not own:
             continue
         december = f"{int(month[:4]) - 1}-12"
-        link, base = (found[december].level, found[december].base) if december in found else (Fraction(100), december)
+        link, base = (
+            (figures[december].level, figures[december].base) if december in figures else (Fraction(100), december)
+        )
         level = nearest(link * within(own) / 100, 10**6)
-        then = link if month.endswith("-01") else found[earlier(month, 1)].level
+        then = link if month.endswith("-01") else figures[earlier(month, 1)].level
         year = (
-            link if month.endswith("-12") else found[earlier(month, 12)].level if earlier(month, 12) in found else None
+            link
+            if month.endswith("-12")
+            else figures[earlier(month, 12)].level
+            if earlier(month, 12) in figures
+            else None
         )
         annual = None if year is None else change(year, level)
-        imputed = any(it.is_imputed for it in own)
-        found[month] = Figures(
-            sum(it.weight for it in own), within(own), level, change(then, level), annual, imputed, base
+        imputed = any(row.is_imputed for row in own)
+        figures[month] = Figures(
+            sum(row.weight for row in own), within(own), level, change(then, level), annual, imputed, base
         )
-    return found
+    return figures
 
 
 def given(months: Months, month: str, code: str, to: Set) -> tuple[Optional[Fraction], Optional[Fraction]]:
@@ -88,7 +94,9 @@ def given(months: Months, month: str, code: str, to: Set) -> tuple[Optional[Frac
     The sum over all of a set is the set's own change before it is rounded to tenths: the annual change goes through the
     December between, from which other weights apply.
     """
-    now, then = ({each: it for each, it in months.get(at, {}).items() if to(each)} for at in (month, earlier(month, 1)))
+    now, then = (
+        {each: month for each, month in months.get(at, {}).items() if to(each)} for at in (month, earlier(month, 1))
+    )
     row, monthly = months[month].get(code), None
     if row:
         is_first = month.endswith("-01")
@@ -102,15 +110,15 @@ def _annual(months: Months, month: str, code: str, to: Set) -> Optional[Fraction
     now = [row for each, row in months[month].items() if to(each)]
     row = months[month].get(code)
     if month.endswith("-12"):
-        return Fraction(row.weight, sum(it.weight for it in now)) * (row.within - 100) if row else None
+        return Fraction(row.weight, sum(row.weight for row in now)) * (row.within - 100) if row else None
     if year not in months or not any(to(each) for each in months[year]):
         return None
-    then, link = ({each: it for each, it in months[at].items() if to(each)} for at in (year, december))
+    then, link = ({each: month for each, month in months[at].items() if to(each)} for at in (year, december))
     moved, start = within(link.values()), within(then.values())
     found = Fraction()
     if code in then:
         share = Fraction(then[code].weight, sum(it.weight for it in then.values()))
         found += 100 * share * (link[code].within - then[code].within) / start
     if row:
-        found += moved / start * Fraction(row.weight, sum(it.weight for it in now)) * (row.within - 100)
+        found += moved / start * Fraction(row.weight, sum(row.weight for row in now)) * (row.within - 100)
     return found if row or code in then else None

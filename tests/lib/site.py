@@ -58,16 +58,16 @@ class Page(html.parser.HTMLParser):
             self.rows[-1][-1] += data
 
 
-def contribution_faults(site: str, found: dict[str, Month], first: str) -> Iterator[str]:
+def contribution_faults(site: str, months: dict[str, Month], first: str) -> Iterator[str]:
     """The fault, if the contributions of the divisions don't add up to the change of all items before rounding."""
-    levels = {month: {row.code: row.level for row in it.rows}["00"] for month, it in found.items()}
+    levels = {month: {row.code: row.level for row in it.rows}["00"] for month, it in months.items()}
     levels[first] = Fraction(100)
     sums: dict[tuple[str, str], Fraction] = collections.defaultdict(Fraction)
     for row in rows_of_csv(Path(site, "data/contributions.csv")):
         if len(row["code"]) == 2 and row["of"] == "00":
             for kind in ("month", "year"):
                 sums[row["month"], kind] += Fraction(row[f"contribution_{kind}"] or 0)
-    for month in found:
+    for month in months:
         for kind, base in (("month", previous(month)), ("year", year_before(month))):
             wanted = 100 * (levels[month] - levels[base]) / levels[base] if base in levels else Fraction(0)
             if abs(sums[month, kind] - wanted) > Fraction(1, 10**5):
@@ -139,8 +139,8 @@ def page_faults(site: str, known: Figures) -> Iterator[str]:
             yield from parts_faults(known, code, page)
         if page.pictures < 2 or page.titles != page.pictures:
             yield f"site: the page of {code} has {page.pictures} pictures, {page.titles} titles"
-        leading = [it for it in page.links if it != "data:," and not it.startswith("#")]
-        lost = [it for it in leading if not leads_to_a_file(site, it)]
+        leading = [link for link in page.links if link != "data:," and not link.startswith("#")]
+        lost = [link for link in leading if not leads_to_a_file(site, link)]
         if lost:
             yield f"site: the page of {code} leads to {lost[:3]}"
 
@@ -153,10 +153,10 @@ def leads_to_a_file(site: str, link: str) -> bool:
     return "//" not in path and os.path.isfile(os.path.join(site, "" if of_site else "node", path))
 
 
-def site_faults(folder: str, known: Figures, found: dict[str, Month], first: str) -> Iterator[str]:
+def site_faults(folder: str, known: Figures, months: dict[str, Month], first: str) -> Iterator[str]:
     """The pages of the pack."""
     site = os.path.join(folder, "site")
-    yield from contribution_faults(site, found, first)
+    yield from contribution_faults(site, months, first)
     yield from page_faults(site, known)
     if len(Page(site, "index.html").rows) < 14:
         yield "site: its first page hasn't all divisions"

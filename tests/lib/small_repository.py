@@ -118,7 +118,7 @@ class Ran(NamedTuple):
 
     def is_refused(self, *words: str) -> bool:
         """Whether it ended with one line, which contains these words, and ran nothing."""
-        return (self.status, self.out, len(self.lines())) == (1, "", 1) and all(it in self.err for it in words)
+        return (self.status, self.out, len(self.lines())) == (1, "", 1) and all(word in self.err for word in words)
 
 
 SHIPPED = Ran(7, "as shipped: 3 words\n<a b><><*>input", "")
@@ -157,7 +157,7 @@ class Repository:
         put(room / "log", "")
         (room / "tools").mkdir()
         (room / "temporary").mkdir()
-        for name, path in [("python3", sys.executable), *((it, shutil.which(it)) for it in TOOLS.split())]:
+        for name, path in [("python3", sys.executable), *((word, shutil.which(word)) for word in TOOLS.split())]:
             if path:
                 (room / "tools" / name).symlink_to(path)
         self.no_rt = {"PATH": f"{room}/tools", "HOME": f"{room}/home", "LC_ALL": "C"}
@@ -179,7 +179,10 @@ class Repository:
     def take_tests(self) -> None:
         """Copies the files that test_shipped_program.py needs, in place of the stand-in, with one case."""
         names = ["tests/run", "tests/pytest.ini", "tests/conftest.py", "tests/second_tries.txt"]
-        names += ["tests/test_shipped_program.py", *(f"tests/lib/{it.name}" for it in (TOP / "tests/lib").glob("*.py"))]
+        names += [
+            "tests/test_shipped_program.py",
+            *(f"tests/lib/{path.name}" for path in (TOP / "tests/lib").glob("*.py")),
+        ]
         for name in names:
             put(self.top / name, (TOP / name).read_text(encoding="utf-8"), 0o755)
         for name, text in {"args": "echo\nhi\n", "stdin": "", "stdout": "hi\n", "status": "0\n"}.items():
@@ -199,7 +202,7 @@ class Repository:
         return ran.returncode == 0
 
     def start(self, *words: str, **how: Any) -> subprocess.Popen[bytes]:
-        streams = {it: subprocess.PIPE for it in ("stdin", "stdout", "stderr")}
+        streams = {text: subprocess.PIPE for text in ("stdin", "stdout", "stderr")}
         how = {"cwd": self.room, "env": self.environment, **streams, **how}
         return subprocess.Popen([self.top / words[0], *words[1:]], **how)
 
@@ -232,7 +235,7 @@ class Repository:
 
     def kept(self) -> list[str]:
         """The files in out/ besides the files of a build."""
-        return sorted({it.name for it in self.out.glob("*")} - {"logs", "lock", "proved"})
+        return sorted({path.name for path in self.out.glob("*")} - {"logs", "lock", "proved"})
 
     def copies(self) -> int:
         return len([*self.top.parent.iterdir()]) - 1

@@ -19,10 +19,10 @@ NAMED = re.compile(r"`(\w+)` in `([\w/]+\.rt)`")
 def functions_outside(source: str) -> Iterator[str]:
     """The names of a source's functions that run a statement outside of a transaction."""
     begins = [*FUNCTION.finditer(source)]
-    ends = [*(it.start() for it in begins[1:]), len(source)]
+    ends = [*(match.start() for match in begins[1:]), len(source)]
     for function, end in zip(begins, ends):
         text = source[function.start() : end]
-        if any(not is_transaction(text, it[1]) for it in CALL.finditer(text)):
+        if any(not is_transaction(text, match[1]) for match in CALL.finditer(text)):
             yield function[1]
 
 
@@ -43,5 +43,5 @@ def statements_outside(crates: Path) -> set[tuple[str, str]]:
 
 def statements_named(text: str) -> set[tuple[str, str]]:
     """The functions that a document names in its sentence about them."""
-    found = SENTENCE.search(text)
-    return {(it[0], it[1]) for it in NAMED.findall(found[1] if found else "")}
+    match = SENTENCE.search(text)
+    return {(element[0], element[1]) for element in NAMED.findall(match[1] if match else "")}

@@ -49,8 +49,8 @@ def texts_of(path: Path, heads: dict[Name, Name]) -> Texts:
     current = None
     for line in path.read_text(encoding="utf-8").splitlines():
         line = line.partition("--")[0]
-        if found := HEAD.match(line):
-            current = Name(path.parts[-3], path.stem, found[1])
+        if match := HEAD.match(line):
+            current = Name(path.parts[-3], path.stem, match[1])
             texts[current], heads[current] = [], current
         if current and not line.startswith("use "):
             texts[current].append(line)
@@ -138,8 +138,8 @@ def theorem_faults(text: str) -> Iterator[str]:
         statements.append(statement)
         if (count := len(rests_on(statement))) != int(told):
             yield f"{name} rests on {count} definitions, and not on {told}"
-    found = ALL.search(text)
-    if not statements or not found:
+    match = ALL.search(text)
+    if not statements or not match:
         yield "it has no table of statements with the number of definitions below each"
-    elif (count := len(rests_on(*statements))) != int(found[1]):
-        yield f"its statements rest on {count} definitions together, and not on {found[1]}"
+    elif (count := len(rests_on(*statements))) != int(match[1]):
+        yield f"its statements rest on {count} definitions together, and not on {match[1]}"

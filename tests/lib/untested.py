@@ -70,10 +70,12 @@ def reached(lines: Mapping[str, set[int]]) -> list[Reached]:
 
 def told_of(files: list[Reached]) -> list[str]:
     """The figure, and the lines that no test reaches."""
-    statements, missing = (sum(len(numbers) for numbers in found) for found in zip(*((it[1], it[2]) for it in files)))
+    statements, missing = (
+        sum(len(numbers) for numbers in found) for found in zip(*((file[1], file[2]) for file in files))
+    )
     percent = 100 * (statements - missing) / statements
     head = f"coverage: tests reach {percent:.2f} percent of tools/cpi_tools: {statements} statements, {missing} missing"
-    return [head, *(f"{it.file}: {it.told}" for it in files if it.missing)]
+    return [head, *(f"{file.file}: {file.told}" for file in files if file.missing)]
 
 
 def prepare(folder: Path) -> Path:

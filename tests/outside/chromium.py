@@ -67,9 +67,9 @@ class Browser:
 
     def value(self, expression: str) -> Any:
         """What an expression of JavaScript is in the page."""
-        found = self.ask("Runtime.evaluate", expression=expression, returnByValue=True, awaitPromise=True)
-        assert "exceptionDetails" not in found, found
-        return found["result"].get("value")
+        value = self.ask("Runtime.evaluate", expression=expression, returnByValue=True, awaitPromise=True)
+        assert "exceptionDetails" not in value, value
+        return value["result"].get("value")
 
     def press(self, key: str) -> None:
         """Presses a key, `Tab` or `Enter`."""

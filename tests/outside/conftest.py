@@ -32,8 +32,8 @@ def program(program_file: str) -> Path:
 @pytest.fixture(scope="session")
 def kills(request: pytest.FixtureRequest) -> int:
     """How often the first machine is killed."""
-    found: int = request.config.getoption("--kills")
-    return found
+    kills: int = request.config.getoption("--kills")
+    return kills
 
 
 @pytest.fixture(scope="session")

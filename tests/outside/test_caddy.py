@@ -141,11 +141,11 @@ def front(needed: Callable[[str], str], tmp_path: Path) -> Iterator[Front]:
     (tmp_path / "set.js").write_text("export const office = {};\n")
     (tmp_path / "site").mkdir()
     for _ in range(TRIES):
-        found = Front(free_port(), free_port(), office, tmp_path / "log", desk)
-        (tmp_path / "Caddyfile").write_text(filled(tmp_path, found))
+        front = Front(free_port(), free_port(), office, tmp_path / "log", desk)
+        (tmp_path / "Caddyfile").write_text(filled(tmp_path, front))
         with running(caddy, tmp_path) as process:
-            if answers(found, process):
-                yield found
+            if answers(front, process):
+                yield front
                 return
     told = (tmp_path / "told").read_text(encoding="utf-8", errors="replace").splitlines()[-1:]
     pytest.fail(f"caddy doesn't answer: {told}")
@@ -357,7 +357,7 @@ def test_the_policy_of_the_published_website_is_its_own(front: Front, tmp_path: 
         with contextlib.closing(front.line()) as line:
             line.request("GET", path)
             policies[path] = line.getresponse().headers.get_all("Content-Security-Policy") or []
-    assert [len(it) for it in policies.values()] == [1] * 4
+    assert [len(policy) for policy in policies.values()] == [1] * 4
     for path, (policy,) in policies.items():
         assert ("style-src 'self' 'unsafe-inline';" in policy) == path.startswith("/published/")
         assert "default-src 'none'; script-src 'self';" in policy
@@ -516,7 +516,7 @@ def test_the_desks_application_is_asked_by_the_peers_address_and_its_fields_are_
         assert (answer.status, answer.read()) == (200, REPLY)
     found = answer.getheaders()
     for wanted, value in OF_THE_DESK.items():
-        assert [it for name, it in found if name == wanted] == [value]
+        assert [getheader for name, getheader in found if name == wanted] == [value]
     assert dict(found)["Strict-Transport-Security"] == "max-age=31536000"
     (message,) = front.desk.messages
     assert message.startswith(b"POST /desk/records/judge ") and message.endswith(b"\r\n\r\ntext=x")

@@ -21,17 +21,17 @@ PAGES = ("month/month.html", "frozen/month.html", "explained/00.html", "explaine
 @pytest.fixture(scope="module")
 def folder(cpi: Cpi, tmp_path_factory: pytest.TempPathFactory) -> Path:
     """The pages of a month that isn't frozen yet, of one that is, of all its nodes, and of a series."""
-    found = tmp_path_factory.mktemp("desk")
-    path = found / "office.db"
+    folder = tmp_path_factory.mktemp("desk")
+    path = folder / "office.db"
     surveys.long(cpi, path, until="2026-09")
     for words in (
-        ("desk", "month", path, "2026-09", "--at", surveys.closes("2026-09"), "--out", found / "month"),
-        ("desk", "month", path, "2026-08", "--out", found / "frozen"),
+        ("desk", "month", path, "2026-09", "--at", surveys.closes("2026-09"), "--out", folder / "month"),
+        ("desk", "month", path, "2026-08", "--out", folder / "frozen"),
     ):
         assert run(cpi, *words).status == 0
-    assert run(None, "explain", path, "2026-08", "all", "--html", found / "explained").status == 0
-    assert run(None, "explain", path, "2026-08", "--series", "1/1", "--html", found / "life.html").status == 0
-    return found
+    assert run(None, "explain", path, "2026-08", "all", "--html", folder / "explained").status == 0
+    assert run(None, "explain", path, "2026-08", "--series", "1/1", "--html", folder / "life.html").status == 0
+    return folder
 
 
 @pytest.fixture(scope="module")

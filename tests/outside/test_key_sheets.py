@@ -59,10 +59,10 @@ def test_each_sheet_is_a_paper_whose_code_is_read(needed: Needed, opened: Browse
     (tmp_path / "sheets.pdf").write_bytes(opened.printed())
     words = [needed("pdftoppm"), "-gray", "-r", str(DOTS_PER_INCH), str(tmp_path / "sheets.pdf"), str(tmp_path / "at")]
     subprocess.run(words, check=True)
-    found = [read_by_zbar(picture) for picture in sorted(tmp_path.glob("at*.pgm"))]
-    assert [len(codes) for codes in found] == [1] * len(NAMES)
+    paths = [read_by_zbar(picture) for picture in sorted(tmp_path.glob("at*.pgm"))]
+    assert [len(codes) for codes in paths] == [1] * len(NAMES)
     keys = [f"#key={number:032x}&name=" if name else f"#key={number:032x}" for number, name in NAMES.items()]
-    assert [code.startswith(f"{URL}/collect/{key}") for key, (code,) in zip(keys, found)] == [True] * len(NAMES)
+    assert [code.startswith(f"{URL}/collect/{key}") for key, (code,) in zip(keys, paths)] == [True] * len(NAMES)
     ran = subprocess.run(["pdftotext", tmp_path / "sheets.pdf", "-"], capture_output=True, text=True, check=True)
     papers = ran.stdout.split("\f")[:-1]
     assert len(papers) == len(NAMES) and "Sign-in sheets" not in ran.stdout

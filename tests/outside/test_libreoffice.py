@@ -86,7 +86,7 @@ def test_spreadsheets_of_other_kinds_are_read_as_their_csv(cpi: Cpi, tmp_path: P
         assert ran.status == 0, (tmp_path / source / "check/problems.csv").read_text()
         found[source] = tables(cpi, replayed(cpi, records, tmp_path / f"{source}.db"))
     assert found[form] == found["csv"] and len(found["csv"]) == 3
-    assert {it.suffix for it in (tmp_path / form).iterdir()} == {f".{form}"}
+    assert {path.suffix for path in (tmp_path / form).iterdir()} == {f".{form}"}
 
 
 def test_a_broken_file_of_another_kind_is_refused(cpi: Cpi, tmp_path: Path) -> None:
@@ -103,7 +103,7 @@ def test_cells_of_libreoffice_are_those_of_its_csv(tmp_path: Path) -> None:
     of = office()
     folder = written(tmp_path / "csv", of)
     converted(tmp_path / "home", "xlsx", tmp_path / "xlsx", sorted(folder.glob("*.csv")))
-    csv, xlsx = (Source(tmp_path / it, SHEETS) for it in ("csv", "xlsx"))
+    csv, xlsx = (Source(tmp_path / text, SHEETS) for text in ("csv", "xlsx"))
     for name in of:
         one, other = csv.sheet(name), xlsx.sheet(name)
         assert one and other and one.columns == other.columns

@@ -17,8 +17,8 @@ def package(needed: Callable[[str], str], program: Path, tmp_path_factory: pytes
     needed("dpkg-deb")
     to = tmp_path_factory.mktemp("package")
     subprocess.run([ROOT / "tools/package", "--to", to, "--program", program], stdout=subprocess.DEVNULL, check=True)
-    (found,) = to.glob("*.deb")
-    return found
+    (package,) = to.glob("*.deb")
+    return package
 
 
 def test_lintian_finds_no_error_and_no_warning(needed: Callable[[str], str], package: Path) -> None:

@@ -111,9 +111,9 @@ KEY = ("FREQ", "REF_AREA", "MEASURE", "UNIT_MEASURE", "COICOP18", "TRANSFORMATIO
 def figures(rows: Iterable[Mapping[str, str]], key: Sequence[str] = KEY) -> dict[tuple[str, ...], Decimal]:
     """The figures of observations by their keys, each once."""
     rows = [*rows]
-    found = {tuple(row[name] for name in key): Decimal(row["OBS_VALUE"]) for row in rows}
-    assert len(found) == len(rows) > 0
-    return found
+    numbers = {tuple(row[name] for name in key): Decimal(row["OBS_VALUE"]) for row in rows}
+    assert len(numbers) == len(rows) > 0
+    return numbers
 
 
 def in_csv(path: Path) -> list[dict[str, str]]:
@@ -125,15 +125,15 @@ def test_rsdmx_reads_each_slice(needed: Needed, pack: Path) -> None:
     """Headline figures, each division and the newest month: all slices together are the whole, with their attributes."""
     program, whole = needed("Rscript"), in_csv(pack / "data/cpi.sdmx.csv")
     slices = sorted((pack / "data/slices").glob("*.xml"))
-    assert [path.name for path in slices] == [f"{it}.sdmx.xml" for it in ("01", "07", "08", "headline")]
-    found: dict[tuple[str, ...], Decimal] = {}
+    assert [path.name for path in slices] == [f"{text}.sdmx.xml" for text in ("01", "07", "08", "headline")]
+    numbers: dict[tuple[str, ...], Decimal] = {}
     for path in slices:
         rows = by_r(program, ALL_COLUMNS, path)
-        found.update(figures(rows))
-        said = {tuple(row[it] for it in KEY): (row["OBS_STATUS"], row.get("BASE_PER", "")) for row in rows}
-        wanted = {tuple(row[it] for it in KEY): (row["OBS_STATUS"], row["BASE_PER"]) for row in whole}
+        numbers.update(figures(rows))
+        said = {tuple(row[text] for text in KEY): (row["OBS_STATUS"], row.get("BASE_PER", "")) for row in rows}
+        wanted = {tuple(row[text] for text in KEY): (row["OBS_STATUS"], row["BASE_PER"]) for row in whole}
         assert said.items() <= wanted.items()
-    assert found == figures(whole)
+    assert numbers == figures(whole)
     newest = by_r(program, ALL_COLUMNS, pack / "data/newest/cpi.sdmx.xml")
     last = max(row["TIME_PERIOD"] for row in whole if row["FREQ"] == "M")
     assert figures(newest) == figures(row for row in whole if row["TIME_PERIOD"] == last)
@@ -145,30 +145,30 @@ def test_rsdmx_reads_a_profile(needed: Needed, cpi: Cpi, office: Office, tmp_pat
     publish(from_file(cpi, office.file, office.at), config, pack, None, lambda _: None)
     rows = by_r(needed("Rscript"), ALL_COLUMNS, pack / "data/profiles/HICP.sdmx.xml")
     key = ("FREQ", "UNIT", "COICOP", "GEO", "TIME_PERIOD")
-    found = figures(rows, key)
-    assert found == figures(in_csv(pack / "data/profiles/HICP.sdmx.csv"), key)
+    numbers = figures(rows, key)
+    assert numbers == figures(in_csv(pack / "data/profiles/HICP.sdmx.csv"), key)
     units = {("CPI", "N"): "I25", ("CPI", "G1"): "RCH_M", ("CPI", "GY"): "RCH_A"}
     for row in in_csv(pack / "data/slices/headline.sdmx.csv"):
         unit = units.get((row["MEASURE"], row["TRANSFORMATION"]))
         if row["FREQ"] == "M" and unit and (unit != "I25" or row["BASE_PER"] == "2025"):
             code = "CP00" if row["COICOP18"] == "_T" else row["COICOP18"]
-            assert found["M", unit, code, "XX", row["TIME_PERIOD"]] == Decimal(row["OBS_VALUE"])
+            assert numbers["M", unit, code, "XX", row["TIME_PERIOD"]] == Decimal(row["OBS_VALUE"])
 
 
 def test_rsdmx_reads_what_a_publication_changed(needed: Needed, cpi: Cpi, office: Office, tmp_path: Path) -> None:
     """A pack over that of two months less: what is replaced in the file of changes is what the new pack has else or besides."""
     tables = from_file(cpi, office.file, office.at)
-    out, latest_month = tmp_path / "public", max(it.listed.month for it in tables)
-    publish([it for it in tables if it.listed.month < latest_month], CONFIG, out, None, lambda _: None)
+    out, latest_month = tmp_path / "public", max(table.listed.month for table in tables)
+    publish([table for table in tables if table.listed.month < latest_month], CONFIG, out, None, lambda _: None)
     before = figures(in_csv(out / "data/cpi.sdmx.csv"))
     publish(tables, CONFIG, out, None, lambda _: None)
     now = figures(in_csv(out / "data/cpi.sdmx.csv"))
     (archive,) = (out / "data/changes").glob("*.xml.zip")
     with zipfile.ZipFile(archive) as file:
         path = Path(file.extract(file.namelist()[0], tmp_path))
-    found = figures(row for row in by_r(needed("Rscript"), ALL_COLUMNS, path) if row["OBS_VALUE"])
-    assert {key: value for key, value in now.items() if before.get(key) != value}.items() <= found.items()
-    assert found.items() <= now.items() and len(found) < len(now) / 2
+    numbers = figures(row for row in by_r(needed("Rscript"), ALL_COLUMNS, path) if row["OBS_VALUE"])
+    assert {key: value for key, value in now.items() if before.get(key) != value}.items() <= numbers.items()
+    assert numbers.items() <= now.items() and len(numbers) < len(now) / 2
 
 
 def test_rsdmx_reads_the_structure(needed: Needed, pack: Path) -> None:
@@ -188,7 +188,7 @@ def test_r_reads_the_tidy_file(needed: Needed, pack: Path, latest: Latest) -> No
         printed = latest[row["month"], row["code"]]
         numbers = [row[name] for name in ("weight", "chained", "month_change", "year_change")]
         wanted = [printed[at] for at in (1, 3, 4, 5)]
-        assert [float(it) if it else None for it in numbers] == [float(it) if it else None for it in wanted]
+        assert [float(number) if number else None for number in numbers] == [float(it) if it else None for it in wanted]
         assert row["title"] == printed[7]
 
 
@@ -222,14 +222,14 @@ def test_libreoffice_reads_each_sheet(needed: Needed, pack: Path, latest: Latest
     for name, place in (("Index", 3), ("Monthly change", 4), ("Annual change", 5), ("Weights", 1)):
         with (tmp_path / f"cpi-{name}.csv").open(encoding="utf-8", newline="") as file:
             head, *rows = csv.reader(file)
-        found = {(month, row[0]): Decimal(it) for row in rows for month, it in zip(head[2:], row[2:]) if it}
-        assert found == {key: Decimal(row[place]) for key, row in latest.items() if row[place]}
+        numbers = {(month, row[0]): Decimal(it) for row in rows for month, it in zip(head[2:], row[2:]) if it}
+        assert numbers == {key: Decimal(row[place]) for key, row in latest.items() if row[place]}
     with (pack / "data/contributions.csv").open(encoding="utf-8", newline="") as file:
         given = [row for row in csv.DictReader(file) if row["of"] == "00" and row["contribution_year"]]
     with (tmp_path / "cpi-Contributions.csv").open(encoding="utf-8", newline="") as file:
         head, *rows = csv.reader(file)
-    found = {(month, row[0]): Decimal(it) for row in rows for month, it in zip(head[2:], row[2:]) if it}
-    assert found == {(row["month"], row["code"]): Decimal(row["contribution_year"]) for row in given}
+    numbers = {(month, row[0]): Decimal(it) for row in rows for month, it in zip(head[2:], row[2:]) if it}
+    assert numbers == {(row["month"], row["code"]): Decimal(row["contribution_year"]) for row in given}
 
 
 def test_the_xml_is_well_formed(needed: Needed, pack: Path) -> None:

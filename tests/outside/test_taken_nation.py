@@ -32,9 +32,9 @@ def nation(cpi: Cpi, tmp_path_factory: pytest.TempPathFactory) -> Path:
 def wanted(nation: Path) -> Tables:
     """The last tables that the example's own run wrote of each month: that of a revision is after the first one."""
     paths = sorted((nation.parent / "out/tables").glob("*.csv"), key=lambda path: path.stem)
-    found = {path.stem[:7]: path.read_text(encoding="utf-8") for path in paths}
-    assert (len(found), len(paths)) == (40, 42)
-    return found
+    texts = {path.stem[:7]: path.read_text(encoding="utf-8") for path in paths}
+    assert (len(texts), len(paths)) == (40, 42)
+    return texts
 
 
 def tables_of(cpi: Cpi, records: Path, wanted: Tables) -> Tables:

@@ -35,13 +35,13 @@ def computed(needed: Callable[[str], str], tmp_path_factory: pytest.TempPathFact
     subprocess.run([*words, "--outdir", folder, folder / "worked.xlsx"], capture_output=True, check=True)
     with (folder / "worked-Table.csv").open(encoding="utf-8", newline="") as file:
         head, *rows = csv.reader(file)
-    found: dict[str, Table] = {}
+    tables: dict[str, Table] = {}
     for code, _, label, *cells in rows:
         for month, cell in zip(head[3:], cells):
             if label in FIGURES:
-                figures = found.setdefault(month, {}).setdefault(code, [""] * len(FIGURES))
+                figures = tables.setdefault(month, {}).setdefault(code, [""] * len(FIGURES))
                 figures[FIGURES.index(label)] = cell
-    return {month: table for month, table in found.items() if any(any(it) for it in table.values())}
+    return {month: table for month, table in tables.items() if any(any(it) for it in table.values())}
 
 
 @pytest.fixture(scope="module")

@@ -39,20 +39,20 @@ class Bad(Exception):
 
 
 def request_line(line: bytes) -> tuple[bytes, str]:
-    found = REQUEST_LINE.fullmatch(line)
-    if not found:
+    match = REQUEST_LINE.fullmatch(line)
+    if not match:
         raise Bad(400)
     try:
-        return found[1], found[2].decode()
+        return match[1], match[2].decode()
     except UnicodeDecodeError:
         raise Bad(400) from None
 
 
 def field(line: bytes) -> Field:
-    found = FIELD.fullmatch(line)
-    if not found:
+    match = FIELD.fullmatch(line)
+    if not match:
         raise Bad(400)
-    return found[1].lower(), found[2].strip(b" \t")
+    return match[1].lower(), match[2].strip(b" \t")
 
 
 def head_of(stream: bytes) -> tuple[bytes, str, list[Field], bytes]:
@@ -121,8 +121,8 @@ def caller_of(fields: list[Field], desk_key: str) -> str:
     borne = all_of(fields, b"authorization")
     if not borne:
         return "public"
-    found = re.fullmatch(rb"cpi-key +([0-9a-f]+)", borne[0], re.IGNORECASE)
-    key = values.key(found[1].decode()) if found and len(borne) == 1 else None
+    match = re.fullmatch(rb"cpi-key +([0-9a-f]+)", borne[0], re.IGNORECASE)
+    key = values.key(match[1].decode()) if match and len(borne) == 1 else None
     if key is None:
         raise Bad(400)
     return "desk" if key == desk_key else key
@@ -160,8 +160,8 @@ def answered(office: Office, stream: bytes, now: int, desk_key: str) -> bytes:
         return b""
     except Bad as fault:
         return response(fault.args[0], '{"refused":10}\n')
-    found = office.reply(record)
-    if "table" in found:
-        return response(200, found["table"], record[4])
-    status = OF_REFUSALS.get(found["refused"], 409) if "refused" in found else 200
-    return response(status, office.written(found) + "\n")
+    reply = office.reply(record)
+    if "table" in reply:
+        return response(200, reply["table"], record[4])
+    status = OF_REFUSALS.get(reply["refused"], 409) if "refused" in reply else 200
+    return response(status, office.written(reply) + "\n")

@@ -132,8 +132,8 @@ class Index:
     # ---- the quotes of a month
 
     def mark(self, month: Month, series: Series) -> Mark:
-        found = [quote.mark for quote in self.frozen[month][0] if quote.series == series]
-        return found[0] if found else ("missing", None)
+        marks = [quote.mark for quote in self.frozen[month][0] if quote.series == series]
+        return marks[0] if marks else ("missing", None)
 
     def observed(self, month: Month, series: Series) -> int | None:
         """The price that was found, or None."""

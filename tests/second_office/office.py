@@ -219,7 +219,7 @@ class Office:
             (8, not {code for _, code in places} <= set(codes), {}),
             (10, len(references) not in limits.REFERENCE_MONTHS or is_late, {}),
         ]
-        return next(({"fault": number, **found} for number, is_so, found in faults if is_so), None)
+        return next(({"fault": number, **fault} for number, is_so, fault in faults if is_so), None)
 
     # ---- freezing
 
@@ -278,12 +278,12 @@ class Office:
 
     def last_price(self, own: Own, place: Place, month: Month) -> int | None:
         """The price of the greatest earlier month with one, among the own quotes of a slot; else the copied one."""
-        found = [
+        price = [
             (earlier, mark[1])
             for (slot, earlier), (mark, _) in own.items()
             if slot == place[1] and earlier < month and mark[0] != "missing"
         ]
-        return max(found)[1] if found else self.assignments[place].copied
+        return max(price)[1] if price else self.assignments[place].copied
 
     def work(self, _: int, collector: int, month: Month) -> Reply:
         if month not in self.calendar:
@@ -300,8 +300,8 @@ class Office:
     def quotes_within(self, _: int, collector: int, first: Month, last: Month) -> Reply:
         own = self.own_quotes(collector)
         places = sorted((month, slot) for slot, month in own if first <= month <= last)
-        found = [(slot, month, own[slot, month]) for month, slot in places]
-        return {"quotes": [[slot, month_text(month), *mark, receipt] for slot, month, (mark, receipt) in found]}
+        quotes = [(slot, month, own[slot, month]) for month, slot in places]
+        return {"quotes": [[slot, month_text(month), *mark, receipt] for slot, month, (mark, receipt) in quotes]}
 
     def put_quote(self, now: int, collector: int, slot: int, month: Month, mark: Mark, confirm: bool) -> Reply:
         if (collector, slot) not in self.assignments:

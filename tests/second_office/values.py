@@ -32,10 +32,10 @@ def number(text: str, within: Range) -> int | None:
 
 def month(text: str) -> Month | None:
     """A pair of year and month."""
-    found = matched("([0-9]{4})-([0-9]{2})", text)
-    if not found:
+    match = matched("([0-9]{4})-([0-9]{2})", text)
+    if not match:
         return None
-    year, number_in_year = int(found[1]), int(found[2])
+    year, number_in_year = int(match[1]), int(match[2])
     return (year, number_in_year) if year in limits.YEAR and number_in_year in limits.MONTH_OF_YEAR else None
 
 
@@ -44,10 +44,10 @@ def moment(text: str) -> int | None:
     seconds = number(text, limits.MOMENT)
     if seconds is not None:
         return seconds
-    found = matched("([0-9]{4})-([0-9]{2})-([0-9]{2})T([0-9]{2}):([0-9]{2})", text)
-    if not found:
+    match = matched("([0-9]{4})-([0-9]{2})-([0-9]{2})T([0-9]{2}):([0-9]{2})", text)
+    if not match:
         return None
-    year, in_year, day, hour, minute = (int(part) for part in found.groups())
+    year, in_year, day, hour, minute = (int(part) for part in match.groups())
     if not (year in limits.CIVIL_YEAR and hour in limits.HOUR and minute in limits.MINUTE):
         return None
     if not (1 <= in_year <= 12 and 1 <= day <= calendar.monthrange(year, in_year)[1]):
@@ -77,8 +77,8 @@ def code(text: str) -> str | None:
     """A code of the classification, in its one spelling."""
     if text == "00":
         return text
-    found = matched(r"([0-9]{2})(\.[0-9]){0,3}", text) or matched(r"([0-9]{2})(\.[0-9]){3}-([0-9]{2})", text)
-    if not found or int(found[1]) not in limits.DIVISION:
+    match = matched(r"([0-9]{2})(\.[0-9]){0,3}", text) or matched(r"([0-9]{2})(\.[0-9]){3}-([0-9]{2})", text)
+    if not match or int(match[1]) not in limits.DIVISION:
         return None
     return None if is_elementary(text) and int(text[-2:]) not in limits.AGGREGATE else text
 

@@ -26,7 +26,7 @@ def priced(cpi: Cpi, office: Path, first: int, count: int, price: int = 500) -> 
     """Sends prices of so many slots, and has the receipt of each."""
     slots = range(first, first + count)
     replies = cpi.replay(
-        [record(50, LOAD_KEY, "quote", it, LOAD_MONTH, "price", price + it) for it in slots], db=office
+        [record(50, LOAD_KEY, "quote", slot, LOAD_MONTH, "price", price + slot) for slot in slots], db=office
     )
     assert all("receipt" in reply for reply in replies) and len(replies) == count
 

@@ -58,7 +58,7 @@ class Person:
 
     def form(self, page: str, ends: str, at: int = 0) -> PageForm:
         """A form of a page, by the end of its address."""
-        return [it for it in forms_of(self.get(page).text) if it.action.endswith(ends)][at]
+        return [form for form in forms_of(self.get(page).text) if form.action.endswith(ends)][at]
 
     def fill(self, page: str, ends: str, at: int = 0, /, **fields: str) -> Any:
         """Fills in a form of a page, and sends it with all that it carries; the answer."""

@@ -50,10 +50,10 @@ def place(row_number: int, column: int) -> str:
 FLOUR = place(3, 4)
 """The price of flour in 2026-01."""
 
-NO_FLOUR: Quotes = {key: it for key, it in QUOTES.items() if key != (202601, 7, 2)}
+NO_FLOUR: Quotes = {key: quote for key, quote in QUOTES.items() if key != (202601, 7, 2)}
 """Without the price of flour in 2026-01."""
 
-NO_FLOUR_IN_FEBRUARY: Quotes = {key: it for key, it in QUOTES.items() if key != (202602, 8, 2)}
+NO_FLOUR_IN_FEBRUARY: Quotes = {key: quote for key, quote in QUOTES.items() if key != (202602, 8, 2)}
 
 Make = Callable[[Path], Sequence[str]]
 """Changes the sheets in a folder; the words that it needs beside."""

@@ -160,12 +160,12 @@ def faults_of(copy: Path, before: int) -> list[str]:
     """What is wrong with a copy, read by the C library, of an office under load: `before` quotes were answered
     before."""
     with contextlib.closing(sqlite3.connect(copy)) as link:
-        found = [line for (line,) in link.execute("PRAGMA integrity_check") if line != "ok"]
+        lines = [line for (line,) in link.execute("PRAGMA integrity_check") if line != "ok"]
         rows = link.execute("SELECT slot, receipt FROM quote_2 WHERE collector = ?", (LOAD_COLLECTOR,))
         receipts = dict(rows.fetchall())
     last = max(receipts.values(), default=0)
     if last < before:
-        found.append(f"{before} quotes were answered, {last} are there")
+        lines.append(f"{before} quotes were answered, {last} are there")
     if receipts != {slot_of(number): number for number in range(max(1, last - LOAD_SLOTS + 1), last + 1)}:
-        found.append("it mixes two moments")
-    return found
+        lines.append("it mixes two moments")
+    return lines

@@ -23,7 +23,7 @@ PLACE = re.compile(r"(\{[a-z0-9_]+\}|%\([a-z]+\)s|%)")
 def greek(text: str) -> str:
     """A text of a language that nobody speaks: in letters that no English word has."""
     parts = PLACE.split(text)
-    return "".join(it if at % 2 else it.lower().translate(GREEK) for at, it in enumerate(parts))
+    return "".join(part if at % 2 else part.lower().translate(GREEK) for at, part in enumerate(parts))
 
 
 def nobodys_in(tmp_path: Path, monkeypatch: pytest.MonkeyPatch) -> str:
@@ -63,7 +63,7 @@ class Seen(HTMLParser):
     def handle_starttag(self, tag: str, attrs: list[tuple[str, Optional[str]]]) -> None:
         has = dict(attrs)
         texts = [has[name] or "" for name in ("aria-label", "title", "alt", "placeholder") if name in has]
-        self.texts += [ISOLATED.sub("", it) for it in texts]
+        self.texts += [ISOLATED.sub("", text) for text in texts]
         if tag not in ("meta", "link", "br"):
             self._open.append((tag, "line" if has.get("lang") == "en" else has.get("class") or ""))
 
@@ -100,11 +100,11 @@ SENTENCE = re.compile(r"\b[a-z']{2,}(?: [a-z']{2,}){2,}")
 """Three English words, one after the other."""
 
 
-def unmarked(found: Seen) -> list[str]:
+def unmarked(sighting: Seen) -> list[str]:
     """The texts of others that read like an English sentence: a program wrote them, and the page doesn't say so."""
-    return [text for text in found.others if SENTENCE.search(text)]
+    return [text for text in sighting.others if SENTENCE.search(text)]
 
 
-def left_in_english(found: Seen, names: re.Pattern[str] = NAMES) -> list[str]:
+def left_in_english(sighting: Seen, names: re.Pattern[str] = NAMES) -> list[str]:
     """The texts that have a Latin word, but for such names."""
-    return [text for text in found.texts if re.search("[A-Za-z]{2,}", names.sub("", text))]
+    return [text for text in sighting.texts if re.search("[A-Za-z]{2,}", names.sub("", text))]

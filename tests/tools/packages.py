@@ -32,7 +32,7 @@ def made_package(top: Path, to: Path, cpi: Cpi, **variables: str) -> Path:
     words = [str(top / "tools/package"), "--to", str(to), "--program", str(cpi.path)]
     ran = subprocess.run(words, capture_output=True, text=True, check=False, env={**kept, **variables})
     assert (ran.returncode, ran.stderr) == (0, "")
-    (found,) = to.glob("*.deb")
-    assert sorted(os.listdir(to)) == ["SHA256SUMS", f"{found.stem}.cdx.json", found.name]
-    assert ran.stdout.startswith(f"{found}: ")
-    return found
+    (package,) = to.glob("*.deb")
+    assert sorted(os.listdir(to)) == ["SHA256SUMS", f"{package.stem}.cdx.json", package.name]
+    assert ran.stdout.startswith(f"{package}: ")
+    return package

@@ -158,9 +158,9 @@ class Life:
         yield record(opens + 500, "desk", "freeze", month)
         if month == REVISED:
             yield record(opens + 550, "desk", "calendar", month, opens + 550, opens + 600, opens + 950)
-            for slot, it in sent.items():
-                if it.price and self._draw.random() < 0.1:
-                    sent[slot] = it._replace(price=it.price + 11)
+            for slot, sending in sent.items():
+                if sending.price and self._draw.random() < 0.1:
+                    sent[slot] = sending._replace(price=sending.price + 11)
                     yield self._quote(opens + 560, slot, month, sent[slot])
             self.frozen[month, 2] = [*sent.values()]
             yield record(opens + 600, "desk", "freeze", month)
@@ -177,10 +177,10 @@ class Life:
             return Sent(*place, self._draw.choice(["stock", "closed", "gone", "refused"]), None)
         return Sent(*place, self._draw.choice(["price", "price", "comparable", "other"]), price)
 
-    def _quote(self, at: int, slot: int, month: str, it: Sent) -> str:
+    def _quote(self, at: int, slot: int, month: str, sending: Sent) -> str:
         collector = 1 if slot % 2 else 2 if month < HANDED else 3
-        answer: list[object] = ["missing", it.mark] if it.price is None else [it.mark, it.price]
-        answer += ["confirm"] if it.mark in ("price", "comparable") else []
+        answer: list[object] = ["missing", sending.mark] if sending.price is None else [sending.mark, sending.price]
+        answer += ["confirm"] if sending.mark in ("price", "comparable") else []
         return record(at, key_of(collector), "quote", slot, month, *answer)
 
 

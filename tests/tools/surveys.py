@@ -33,7 +33,7 @@ def key_of(collector: int) -> str:
 
 def bytes_of(path: Path) -> dict[str, bytes]:
     """The bytes of an office's file and of its log, by their names."""
-    return {it.name: it.read_bytes() for it in path.parent.glob(f"{path.name}*")}
+    return {path.name: path.read_bytes() for path in path.parent.glob(f"{path.name}*")}
 
 
 def number_of(month: str) -> int:
@@ -122,7 +122,7 @@ def item_of(code: str) -> str:
 
 def plan_of(year: int, is_moved: bool) -> str:
     """A year's plan. One with moved weights can't have a new aggregate, so its weight is another's then."""
-    weights = {code: it.first if year == 2026 else it.second for code, it in AGGREGATES.items()}
+    weights = {code: aggregate.first if year == 2026 else aggregate.second for code, aggregate in AGGREGATES.items()}
     weights = {code: weight for code, weight in weights.items() if weight}
     if is_moved and year == 2027:
         weights["01.1.6.1-01"] += weights.pop("12.1.1.1-01")
@@ -157,8 +157,8 @@ class Life:
         for number in (1, 2, 3, 9):
             self.must(0, "desk", "outlet", number, f"Shop {number}, harbour")
             self.must(0, "desk", "collector", number, key_of(number))
-        for code, it in AGGREGATES.items():
-            for turn in range(it.series):
+        for code, aggregate in AGGREGATES.items():
+            for turn in range(aggregate.series):
                 collector = turn % 3 + 1
                 slot = 1 + sum(each[0] == collector for each in self.slots)
                 last = "2026-12" if code == LEAVES else "2027-12"
@@ -189,7 +189,7 @@ class Life:
 
     def hand_over(self) -> None:
         """All of the third collector goes to the ninth."""
-        for turn, (collector, slot) in enumerate([it for it in self.slots if it[0] == 3], 1):
+        for turn, (collector, slot) in enumerate([slot for slot in self.slots if slot[0] == 3], 1):
             self.must(0, "desk", "handover", collector, slot, 9, turn, HANDED)
             self.slots[9, turn] = self.slots.pop((collector, slot))
             self.last[9, turn] = self.last[collector, slot]

@@ -160,7 +160,7 @@ def test_another_office_of_the_same_name_stays_out(
     for path in (office, log_beside(office)):
         path.unlink(missing_ok=True)
     swapped = {"a" * 32: "c" * 32, "b" * 32: "d" * 32, "f" * 32: "e" * 32}
-    records = [*lived(), *(record(50, LOAD_KEY, "quote", it, LOAD_MONTH, "price", 900) for it in range(1, 150))]
+    records = [*lived(), *(record(50, LOAD_KEY, "quote", number, LOAD_MONTH, "price", 900) for number in range(1, 150))]
     for old, new in swapped.items():
         records = [it.replace(old, new) for it in records]
     assert not [reply for reply in cpi.replay(records, db=office) if "refused" in reply]

@@ -33,8 +33,8 @@ def written(published: list[Published], config: Config, out: Path) -> Path:
 def versions_of(pack: Path) -> dict[tuple[str, str], tuple[int, ...]]:
     """The versions of a structure message by class and id, as numbers."""
     root = ElementTree.parse(pack / "data/structure.sdmx.xml")
-    each = [(kind, it) for kind in KINDS for it in root.iter(STRUCTURE + kind)]
-    return {(kind, it.get("id", "")): numbers(it.get("version", "")) for kind, it in each}
+    each = [(kind, element) for kind in KINDS for element in root.iter(STRUCTURE + kind)]
+    return {(kind, element.get("id", "")): numbers(element.get("version", "")) for kind, element in each}
 
 
 def numbers(version: str) -> tuple[int, ...]:
@@ -42,8 +42,8 @@ def numbers(version: str) -> tuple[int, ...]:
 
 
 def rows_of(pack: Path) -> dict[tuple[str, str], str]:
-    found = json.loads((pack / "data/artefacts.json").read_bytes())["artefacts"]
-    return {(it["class"], it["id"]): it["version"] for it in found}
+    artefacts = json.loads((pack / "data/artefacts.json").read_bytes())["artefacts"]
+    return {(artefact["class"], artefact["id"]): artefact["version"] for artefact in artefacts}
 
 
 ITEMS, FLOW = ("Codelist", "CL_COICOP18"), ("Dataflow", "DF_CPI")
@@ -84,8 +84,8 @@ def test_artefacts_of_two_classes_share_an_id(published: list[Published], tmp_pa
     one = CONFIG._replace(ids={"DF_CPI": "CPI", "DSD_CPI": "CPI", "CS_CPI": "CPI"})
     out = written(published[:3], one, tmp_path / "public")
     written(published[:3], one._replace(title="Prices"), out)
-    found = versions_of(out)
-    assert [found[kind, "CPI"] for kind in KINDS if kind != "Codelist"] == [(1, 0, 1), (1, 0, 0), (1, 0, 1)]
+    versions = versions_of(out)
+    assert [versions[kind, "CPI"] for kind in KINDS if kind != "Codelist"] == [(1, 0, 1), (1, 0, 0), (1, 0, 1)]
 
 
 def test_a_version_is_compared_by_its_numbers() -> None:
@@ -188,7 +188,9 @@ def test_a_pack_with_a_damaged_file_stays_as_it_is(published: list[Published], t
 def test_the_structure_says_what_each_value_is(published: list[Published], tmp_path: Path) -> None:
     out = written(published[:3], CONFIG, tmp_path / "public")
     root, found = ElementTree.parse(out / "data/structure.sdmx.xml"), {}
-    for it in [it for kind in ("Attribute", "PrimaryMeasure", "TimeDimension") for it in root.iter(STRUCTURE + kind)]:
+    for it in [
+        element for kind in ("Attribute", "PrimaryMeasure", "TimeDimension") for element in root.iter(STRUCTURE + kind)
+    ]:
         form = it.find(f"{STRUCTURE}LocalRepresentation/{STRUCTURE}TextFormat")
         if form is not None:
             found[it.get("id")] = form.get("textType")
@@ -196,7 +198,10 @@ def test_the_structure_says_what_each_value_is(published: list[Published], tmp_p
         "OBS_VALUE": "Decimal", "DECIMALS": "Integer", "REVISION": "Integer", "EMBARGO_TIME": "DateTime",
         "BASE_PER": "ObservationalTimePeriod", "TIME_PERIOD": "ObservationalTimePeriod",
     }  # fmt: skip
-    hangs = {it.get("id"): [ref.get("id") for ref in it.iter("Ref")][-1] for it in root.iter(STRUCTURE + "Attribute")}
+    hangs = {
+        element.get("id"): [ref.get("id") for ref in element.iter("Ref")][-1]
+        for element in root.iter(STRUCTURE + "Attribute")
+    }
     assert hangs["BASE_PER"] == "OBS_VALUE" and hangs["DECIMALS"] == "TRANSFORMATION"
 
 

@@ -144,19 +144,19 @@ def test_the_averages_are_computed_again(cpi: Cpi, tmp_path: Path, seed: int) ->
     (tmp_path / "items.toml").write_text(toml)
     items = read_items(tmp_path / "items.toml")
     rows = average_prices(cpi, office.file, NOW, AverageRule(4, 2), items, tmp_path / "averages.csv")
-    found = {(row.month, row.revision, row.item): row.mean and tuple(row.mean) for row in rows}
+    means = {(row.month, row.revision, row.item): row.mean and tuple(row.mean) for row in rows}
     last = {month: revision for month, revision in office.frozen}
     wanted = {
         (month, last[month], item): mean_again(prices_of(office.frozen[month, last[month]], item), 4)
         for month in DRAWN_MONTHS[1:-1]
         for item in ITEMS
     }
-    assert found == wanted and last["2026-02"] == 2
-    assert None in found.values() and sum(mean is not None for mean in found.values()) > 5
+    assert means == wanted and last["2026-02"] == 2
+    assert None in means.values() and sum(mean is not None for mean in means.values()) > 5
 
 
 def prices_of(sent: Sequence[Sent], item: str) -> list[tuple[int, int]]:
-    return [(it.outlet, it.price) for it in sent if it.item == item and it.price is not None]
+    return [(sending.outlet, sending.price) for sending in sent if sending.item == item and sending.price is not None]
 
 
 def test_the_rule_is_the_same_once_more() -> None:

@@ -112,17 +112,17 @@ def test_the_bill_is_by_the_rules_of_cyclonedx(found: Any) -> None:
     parts = [found["metadata"]["component"], *found["components"]]
     for each in parts:
         of_component(each)
-    refs = [it["bom-ref"] for it in parts]
+    refs = [part["bom-ref"] for part in parts]
     assert len(set(refs)) == len(refs) == len(set(map(str, parts)))
     for each in found["dependencies"]:
         fielded("dependency", each)
         assert {each["ref"], *each["dependsOn"]} <= set(refs) and len(set(each["dependsOn"])) == len(each["dependsOn"])
-    assert len({it["ref"] for it in found["dependencies"]}) == len(found["dependencies"])
+    assert len({dependency["ref"] for dependency in found["dependencies"]}) == len(found["dependencies"])
 
 
 def named(found: Any, kind: str) -> set[str]:
     """The names of the components of a kind."""
-    return {it["name"] for it in found["components"] if it["bom-ref"].startswith(f"{kind}:")}
+    return {component["name"] for component in found["components"] if component["bom-ref"].startswith(f"{kind}:")}
 
 
 def test_the_bill_has_what_the_package_has(found: Any, cpi: Cpi, package: Path, tmp_path: Path) -> None:
@@ -130,22 +130,22 @@ def test_the_bill_has_what_the_package_has(found: Any, cpi: Cpi, package: Path, 
     assert named(found, "crate") == {*crates} - {"cpi_tests"}
     works = (ROOT / "THIRD-PARTY.md").read_text().partition("\n## Works\n")[2].partition("\n## Licenses\n")[0]
     assert named(found, "work") == set(re.findall("^### (.+)$", works, re.M))
-    (program,) = (it for it in found["components"] if it["type"] == "file")
+    (program,) = (component for component in found["components"] if component["type"] == "file")
     assert program["hashes"][0]["content"] == hashlib.sha256(cpi.path.read_bytes()).hexdigest()
     subprocess.run(["dpkg-deb", "--control", package, tmp_path / "told"], check=True)
     fields = re.findall("^(?:Depends|Recommends|Suggests): (.*)$", (tmp_path / "told/control").read_text(), re.M)
     assert named(found, "deb") == {one.split()[0] for field in fields for one in field.split(", ")}
     assert found["metadata"]["component"]["version"] == package.name.split("_")[1]
-    by_ref = {it["ref"]: it["dependsOn"] for it in found["dependencies"]}
+    by_ref = {dependency["ref"]: dependency["dependsOn"] for dependency in found["dependencies"]}
     assert {"crate:cpi_office", "crate:cpi_wire", "work:serde_json", "work:csv"} <= set(by_ref["crate:cpi_wire"]) | {
         "crate:cpi_wire"
     }
-    clap = next(it for it in found["components"] if it["bom-ref"] == "work:clap")
-    assert [it["purl"] for it in clap["pedigree"]["ancestors"]] == [
+    clap = next(component for component in found["components"] if component["bom-ref"] == "work:clap")
+    assert [ancestor["purl"] for ancestor in clap["pedigree"]["ancestors"]] == [
         "pkg:cargo/clap_builder@4.6.7",
         "pkg:cargo/clap_lex@1.1.1",
     ]
-    libc = next(it for it in found["components"] if it["bom-ref"] == "deb:libc6")
+    libc = next(component for component in found["components"] if component["bom-ref"] == "deb:libc6")
     assert {"name": "debian:versions", "value": ">= 2.34"} in libc["properties"] and libc["scope"] == "required"
 
 

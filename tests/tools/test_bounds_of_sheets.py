@@ -51,9 +51,9 @@ def measured(cpi: Cpi, folder: Path, *words: str) -> tuple[int, int]:
 def fault_of(path: Path) -> str:
     """The line that a workbook is refused by."""
     with pytest.raises(Fault) as told:
-        found = Source(path, SHEETS).stream("prices")
-        assert found
-        for _ in found.rows:
+        stream = Source(path, SHEETS).stream("prices")
+        assert stream
+        for _ in stream.rows:
             pass
     return str(told.value)
 
@@ -138,8 +138,8 @@ def test_a_part_that_is_no_sheet_may_be_of_any_kind(tmp_path: Path) -> None:
     with ZipFile(folder / "prices.xlsx", "a", ZIP_DEFLATED) as parts:
         parts.writestr("xl/drawings/vmlDrawing1.vml", "<xml><br></xml>")
         parts.writestr("xl/media/image1.png", b"\x89PNG")
-    found = Source(folder / "prices.xlsx", SHEETS).sheet("prices")
-    assert found and len([*found.rows]) == 3
+    sheet = Source(folder / "prices.xlsx", SHEETS).sheet("prices")
+    assert sheet and len([*sheet.rows]) == 3
 
 
 # ---- memory
@@ -151,10 +151,13 @@ def national(folder: Path, series: int, months: int) -> Path:
     del of["releases"], of["handovers"]
     names = [f"{2014 + at // 12}-{at % 12 + 1:02}" for at in range(months)]
     outlets = [*range(1, series // 2 + 1)]
-    of["outlets"] = [["outlet", "name"], *([str(it), f"Shop {it}"] for it in outlets)]
-    of["collectors"] = [["collector", "key"], *([str(it), f"{it:032x}"] for it in range(1, series // 400 + 2))]
+    of["outlets"] = [["outlet", "name"], *([str(outlet), f"Shop {outlet}"] for outlet in outlets)]
+    of["collectors"] = [
+        ["collector", "key"],
+        *([str(number), f"{number:032x}"] for number in range(1, series // 400 + 2)),
+    ]
     slots = [(str(at // 400 + 1), str(at % 400 + 1)) for at in range(series)]
-    kinds = zip(slots, [(str(it), item) for it in outlets for item in ("RICE", "FLOUR")])
+    kinds = zip(slots, [(str(outlet), item) for outlet in outlets for item in ("RICE", "FLOUR")])
     of["series"] = [["collector", "slot", "outlet", "item", "first", "last"],
                     *([*slot, *kind, names[0], "2199-12"] for slot, kind in kinds)]  # fmt: skip
     windows = [[name, str(at * 1000), str(at * 1000 + 900), str(at * 1000 + 900)] for at, name in enumerate(names)]

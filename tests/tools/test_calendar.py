@@ -24,9 +24,9 @@ BEFORE = '{"months": [{"month": "2026-11", "opens": 1793487600, "closes": 179607
 
 def windows_in(path: Path) -> list[tuple[str, int, int]]:
     """Month, opening and closing of each window in a calendar, which has nothing else."""
-    found = json.loads(path.read_text(encoding="utf-8"))
-    assert [*found] == ["months"] and {tuple(it) for it in found["months"]} <= {("month", "opens", "closes")}
-    return [(it["month"], it["opens"], it["closes"]) for it in found["months"]]
+    windows = json.loads(path.read_text(encoding="utf-8"))
+    assert [*windows] == ["months"] and {tuple(month) for month in windows["months"]} <= {("month", "opens", "closes")}
+    return [(month["month"], month["opens"], month["closes"]) for month in windows["months"]]
 
 
 def test_the_months_that_matter_now(office: Path, tmp_path: Path) -> None:
@@ -40,7 +40,7 @@ def test_the_months_that_matter_now(office: Path, tmp_path: Path) -> None:
     assert ran == (0, f"{out}: 1 month, 2030-01 to 2030-01\n", "")
     assert out.read_bytes() == b'{"months": [\n{"month": "2030-01", "opens": 1, "closes": 9999999998}\n]}\n'
     assert stat.S_IMODE(out.stat().st_mode) == 0o644
-    assert sums(office) == before and {it.name for it in tmp_path.iterdir()} == {"office.db", "calendar.json"}
+    assert sums(office) == before and {path.name for path in tmp_path.iterdir()} == {"office.db", "calendar.json"}
 
 
 def test_all_months_from_one_on(office: Path, tmp_path: Path) -> None:
@@ -78,8 +78,8 @@ def test_a_month_is_kept_for_400_days_after_its_window() -> None:
     now = 2_000_000_000
     closes = now - 400 * 86_400
     windows = [Window(202_511, 0, closes - 1, 0), Window(202_512, 0, closes, 0), Window(202_601, now, now + 1, 0)]
-    assert [it.month for it in windows_since(windows, None, now)] == [202_512, 202_601]
-    assert [it.month for it in windows_since(windows, 202_511, now)] == [202_511, 202_512, 202_601]
+    assert [window.month for window in windows_since(windows, None, now)] == [202_512, 202_601]
+    assert [window.month for window in windows_since(windows, 202_511, now)] == [202_511, 202_512, 202_601]
     assert windows_since(windows, 202_602, now) == []
 
 

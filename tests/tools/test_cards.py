@@ -48,7 +48,7 @@ def pack(tmp_path_factory: pytest.TempPathFactory) -> Path:
 
 def cards_in(pack: Path) -> dict[str, bytes]:
     """The cards of a pack."""
-    return {it.name: it.read_bytes() for it in sorted((pack / "release").glob("*.png"))}
+    return {path.name: path.read_bytes() for path in sorted((pack / "release").glob("*.png"))}
 
 
 def test_each_release_has_its_card(pack: Path) -> None:

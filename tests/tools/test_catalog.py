@@ -65,7 +65,7 @@ def test_a_catalogue_has_the_data_set_and_its_publisher(graph: rdflib.Graph) -> 
     (contact,) = graph.objects(dataset, DCAT.contactPoint)
     assert value(graph, contact, VCARD.hasEmail) == URIRef("mailto:prices@prices.example")
     assert value(graph, dataset, DCTERMS.identifier) == Literal("NSO:DF_CPI")
-    assert {*graph.objects(dataset, DCAT.landingPage)} == {URIRef(f"{ADDRESS}{it}data.html") for it in ("", "fr/")}
+    assert {*graph.objects(dataset, DCAT.landingPage)} == {URIRef(f"{ADDRESS}{text}data.html") for text in ("", "fr/")}
     (period,) = graph.objects(dataset, DCTERMS.temporal)
     # (the archives have the earlier years)
     assert value(graph, period, DCAT.startDate) == Literal("2025-01", datatype=XSD.gYearMonth)
@@ -74,11 +74,11 @@ def test_a_catalogue_has_the_data_set_and_its_publisher(graph: rdflib.Graph) -> 
 
 def test_each_file_is_a_distribution_with_its_size_and_sum(pack: Path, graph: rdflib.Graph) -> None:
     (dataset,) = graph.subjects(RDF.type, DCAT.Dataset)
-    found = {*graph.objects(dataset, DCAT.distribution)}
-    data = {it for it in (pack / "data").iterdir() if it.is_file() and it.name != "catalog.jsonld"}
+    objects = {*graph.objects(dataset, DCAT.distribution)}
+    data = {path for path in (pack / "data").iterdir() if path.is_file() and path.name != "catalog.jsonld"}
     wanted = {*data, *(pack / "data/years").glob("*.zip")}
-    assert {URIRef(ADDRESS + it.relative_to(pack).as_posix()) for it in wanted} <= found and len(wanted) > 12
-    for it in found:
+    assert {URIRef(ADDRESS + path.relative_to(pack).as_posix()) for path in wanted} <= objects and len(wanted) > 12
+    for it in objects:
         path = pack / str(it).removeprefix(ADDRESS)
         checksum = value(graph, it, SPDX.checksum)
         assert value(graph, checksum, SPDX.algorithm) == SPDX.checksumAlgorithm_sha256
@@ -127,5 +127,5 @@ def test_without_an_address_there_is_none(published: list[Published], tmp_path: 
     ],
 )
 def test_a_mailbox_ends_before_the_signs_of_a_sentence(text: str, mailbox: str) -> None:
-    found = MAILBOX.search(text)
-    assert (found[0] if found else "") == mailbox
+    match = MAILBOX.search(text)
+    assert (match[0] if match else "") == mailbox

@@ -30,8 +30,8 @@ LANGUAGES = catalogues.codes(ROOT / "po")
 @functools.cache
 def source() -> Catalog:
     """The texts of all sources."""
-    found: Catalog = catalogues.template(ROOT)
-    return found
+    template: Catalog = catalogues.template(ROOT)
+    return template
 
 
 # ---- no text is outside
@@ -44,7 +44,7 @@ def kept_scripts() -> list[Path]:
     names = re.findall(r'"((?:\.\./shared/)?[a-z-]+\.js)"', text.partition("];")[0])
     assert len(names) > 20
     made = ("refused.js", "../shared/languages.js")
-    notes = [it for begin in ("note", "question") for it in sorted((ROOT / "web/collect").glob(f"{begin}*.js"))]
+    notes = [path for begin in ("note", "question") for path in sorted((ROOT / "web/collect").glob(f"{begin}*.js"))]
     assert len(notes) > 12
     return [ROOT / "web/collect" / name for name in names if name not in made] + notes
 
@@ -76,13 +76,13 @@ def strings_of(script: str) -> Iterator[tuple[Token, str, str]]:
 def outside(script: str) -> list[str]:
     """The texts of a script that are in no catalogue: those in no call of t, tc or tn, and the calls that no extractor finds,
     within a template string."""
-    found = []
+    outside = []
     for token, text, function in strings_of(script):
         if token.type == "template_string" and re.search(r"\bt[cn]?\(", text):
-            found.append(f"line {token.lineno}: a call in a template string: {text}")
+            outside.append(f"line {token.lineno}: a call in a template string: {text}")
         elif function not in ("t", "tc", "tn") and TEXT.search(text) and text not in NO_TEXTS:
-            found.append(f"line {token.lineno}: {text}")
-    return found
+            outside.append(f"line {token.lineno}: {text}")
+    return outside
 
 
 @pytest.mark.parametrize("path", kept_scripts(), ids=lambda path: f"{path.parent.name}/{path.name}")
@@ -170,8 +170,8 @@ READ_OUT = re.compile(r'(?:aria-label|title|alt|placeholder)="([^"]*)"')
 def left_in(template: str) -> list[str]:
     """The words of a template that stand in no catalogue: in elements, and in attributes that are read out."""
     text = CODE.sub("", MARKED.sub("", template))
-    found = [*READ_OUT.findall(text), OF_NO_LANGUAGE.sub(" ", COLUMNS.sub("", text))]
-    return re.findall(r"[A-Za-z]{2,}", OF_NO_LANGUAGE.sub(" ", " ".join(found)))
+    elements = [*READ_OUT.findall(text), OF_NO_LANGUAGE.sub(" ", COLUMNS.sub("", text))]
+    return re.findall(r"[A-Za-z]{2,}", OF_NO_LANGUAGE.sub(" ", " ".join(elements)))
 
 
 @pytest.mark.parametrize("path", TEMPLATES, ids=lambda path: f"{path.parents[1].name}/{path.stem}")
@@ -207,7 +207,7 @@ def outside_of_python(module: str, others: Iterable[str] = ()) -> list[str]:
         is_docstring = isinstance(node, ast.Expr) and isinstance(node.value, ast.Constant)
         if name in (*CALLS, *others, "append", "warning") or is_docstring:
             known.update(ast.walk(node))
-    texts = (it.value for it in ast.walk(tree) if isinstance(it, ast.Constant) and it not in known)
+    texts = (node.value for node in ast.walk(tree) if isinstance(node, ast.Constant) and node not in known)
     return [
         text
         for text in texts
@@ -244,8 +244,8 @@ TERMINAL = ("Fault", "said_as")
 @pytest.mark.parametrize("path", OF_REPORTS, ids=lambda path: Path(path).stem)
 def test_each_text_of_a_report_is_in_the_catalogues(path: str) -> None:
     months = {name for names in NAMES_OF_MONTHS.values() for name in names}
-    found = outside_of_python((ROOT / path).read_text(encoding="utf-8"), TERMINAL)
-    assert [it for it in found if it not in months and not NO_TEXT_OF_REPORTS.search(it)] == []
+    outsides = outside_of_python((ROOT / path).read_text(encoding="utf-8"), TERMINAL)
+    assert [outside for outside in outsides if outside not in months and not NO_TEXT_OF_REPORTS.search(outside)] == []
 
 
 def test_the_modules_of_take_in_are_among_those_of_reports() -> None:

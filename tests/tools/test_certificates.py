@@ -50,9 +50,9 @@ def end_by_openssl(path: Path) -> int:
 def test_the_end_of_a_certificate_is_that_of_openssl(kind: str, days: int, tmp_path: Path) -> None:
     """That of 20,000 days is written with a year of four digits."""
     path = made(tmp_path / "cert.pem", kind, days)
-    found = certificate_at(path, 1)
-    assert found == Certificate(str(path), end_by_openssl(path))
-    assert abs(found.ends - time.time() - days * 86_400) < 300
+    certificate = certificate_at(path, 1)
+    assert certificate == Certificate(str(path), end_by_openssl(path))
+    assert abs(certificate.ends - time.time() - days * 86_400) < 300
 
 
 def test_of_several_in_a_file_the_first_end_counts(tmp_path: Path) -> None:

@@ -64,8 +64,8 @@ def whole(pack: Path) -> Observations:
 
 
 def changes(pack: Path) -> list[dict[str, Any]]:
-    found: list[dict[str, Any]] = json.loads((pack / "manifest.json").read_bytes()).get("changes", [])
-    return found
+    changes: list[dict[str, Any]] = json.loads((pack / "manifest.json").read_bytes()).get("changes", [])
+    return changes
 
 
 def read(pack: Path, name: str, end: str) -> bytes:
@@ -114,14 +114,14 @@ def follow(out: Path, published: list[Published], config: Config, before: Observ
     assert earlier == rows and all((out / name).read_bytes() == data for name, data in kept.items())
     assert row["since"] == hashlib.sha256(manifest).hexdigest()
     data = read(out, row["name"], "csv")
-    found = rows_of(data)
+    attributes = rows_of(data)
     assert (row["replaced"], row["deleted"]) == tuple(
-        sum(it["ACTION"] == action for it in found) for action in ("R", "D")
+        sum(attribute["ACTION"] == action for attribute in attributes) for action in ("R", "D")
     )
-    assert applied(before, found) == now
+    assert applied(before, attributes) == now
     replaced, deleted = in_xml(read(out, row["name"], "xml"))
-    assert replaced == keyed([it for it in found if it["ACTION"] == "R"])
-    assert deleted == {*keyed([it for it in found if it["ACTION"] == "D"])}
+    assert replaced == keyed([attribute for attribute in attributes if attribute["ACTION"] == "R"])
+    assert deleted == {*keyed([attribute for attribute in attributes if attribute["ACTION"] == "D"])}
     assert {*row["files"]} == {f"data/changes/{row['name']}.sdmx.{end}.zip" for end in ("csv", "xml")}
     for name, its_sum in row["files"].items():
         assert hashlib.sha256((out / name).read_bytes()).hexdigest() == its_sum
@@ -130,12 +130,12 @@ def follow(out: Path, published: list[Published], config: Config, before: Observ
 
 
 def until(published: list[Published], month: str) -> list[Published]:
-    return [it for it in published if it.listed.month <= month]
+    return [publication for publication in published if publication.listed.month <= month]
 
 
 def first(published: list[Published]) -> list[Published]:
     """The tables without their further revisions."""
-    return [it for it in published if it.listed.revision == 1]
+    return [publication for publication in published if publication.listed.revision == 1]
 
 
 @pytest.fixture(scope="module")
@@ -166,8 +166,8 @@ def test_a_revision_of_an_archived_year_is_among_them(made: tuple[Path, dict[str
     out, rows = made
     row = rows["revision"]
     assert row["releases"] == [f"{REVISED}-r2"] and row["name"] == f"{REVISED}-r2"
-    found = rows_of(read(out, row["name"], "csv"))
-    assert {it["TIME_PERIOD"] for it in found if it["REVISION"] == "2"} == {REVISED}
+    attributes = rows_of(read(out, row["name"], "csv"))
+    assert {attribute["TIME_PERIOD"] for attribute in attributes if attribute["REVISION"] == "2"} == {REVISED}
     assert f"data/years/{REVISED[:4]}.zip" in {path.relative_to(out).as_posix() for path in out.rglob("*.zip")}
 
 
@@ -189,8 +189,10 @@ def test_what_the_office_changes_without_a_table_is_a_change(published: list[Pub
     final = {**CONFIG._replace(specials=sets)._asdict()}
     before, row = follow(out, tables, Config(**final), before)
     assert row["name"] == "2026-01-r1-2"
-    found = rows_of(read(out, row["name"], "csv"))
-    assert {it["OBS_STATUS"] for it in found} == {"A"} and {it["TIME_PERIOD"] for it in found} >= {"2026-01", "2025"}
+    rows = rows_of(read(out, row["name"], "csv"))
+    assert {attributes["OBS_STATUS"] for attributes in rows} == {"A"} and {
+        attributes["TIME_PERIOD"] for attributes in rows
+    } >= {"2026-01", "2025"}
 
 
 def test_an_observation_that_is_gone_is_deleted(published: list[Published], tmp_path: Path) -> None:
@@ -199,9 +201,9 @@ def test_an_observation_that_is_gone_is_deleted(published: list[Published], tmp_
     out = written(published[:15], CONFIG._replace(specials=(fruit,)), tmp_path / "public")
     reason = Reason("SET", 2, "It is another one.", published[14].listed.moment)
     now, row = follow(out, published[:15], CONFIG._replace(specials=(phone,), reasons=(reason,)), whole(out))
-    gone = [it for it in rows_of(read(out, row["name"], "csv")) if it["ACTION"] == "D"]
-    assert row["deleted"] == len(gone) > 0 and {it["COICOP18"] for it in gone} == {"SET"}
-    assert {it["TIME_PERIOD"][:4] for it in gone} == {"2025"}
+    gone = [attributes for attributes in rows_of(read(out, row["name"], "csv")) if attributes["ACTION"] == "D"]
+    assert row["deleted"] == len(gone) > 0 and {attributes["COICOP18"] for attributes in gone} == {"SET"}
+    assert {attributes["TIME_PERIOD"][:4] for attributes in gone} == {"2025"}
 
 
 @pytest.mark.parametrize("years", [(1, 3), (3, 1), (1, 2), (2, 1)])
@@ -209,14 +211,14 @@ def test_other_years_in_the_files_change_no_observation(
     published: list[Published], tmp_path: Path, years: tuple[int, int]
 ) -> None:
     """A year moves from its archive into the files of all, or back: nothing of it is another one."""
-    then, now = (CONFIG._replace(years=it) for it in years)
+    then, now = (CONFIG._replace(years=year) for year in years)
     out = written(until(first(published), "2027-02"), then, tmp_path / "public")
     before, manifest = whole(out), (out / "manifest.json").read_bytes()
     written(until(first(published), "2027-02"), now, out)
     assert (changes(out), (out / "manifest.json").read_bytes()) == ([], manifest) and whole(out) == before
     written(until(first(published), "2027-02"), then, out)
     before, row = follow(out, until(first(published), "2027-03"), now, before)
-    assert {it["TIME_PERIOD"] for it in rows_of(read(out, row["name"], "csv"))} == {"2027-03"}
+    assert {attributes["TIME_PERIOD"] for attributes in rows_of(read(out, row["name"], "csv"))} == {"2027-03"}
 
 
 # ---- what stays, and what is refused
@@ -233,12 +235,12 @@ def test_changes_that_are_lost_are_refused(
         path.unlink()
         if other:
             path.write_bytes(other)
-        before = {it: it.read_bytes() for it in out.rglob("*") if it.is_file()}
+        before = {path: path.read_bytes() for path in out.rglob("*") if path.is_file()}
         with pytest.raises(
             LostChanges, match=r"changes/2026-01-r1\.sdmx\.csv\.zip isn't there as it was published: put"
         ):
             written(published, config, out)
-        assert {it: it.read_bytes() for it in out.rglob("*") if it.is_file()} == before
+        assert {path: path.read_bytes() for path in out.rglob("*") if path.is_file()} == before
         path.write_bytes(data)
     assert check(until(published, "2027-01"), config, out, None, quiet) == []
 
@@ -283,9 +285,9 @@ def test_an_archive_of_a_pack_elsewhere_is_compared(published: list[Published], 
     before = whole(elsewhere)
     publish(until(first(published), "2027-03"), config, out, elsewhere / "manifest.json", quiet)
     (row,) = changes(out)
-    found = rows_of(read(out, row["name"], "csv"))
-    assert applied(before, found) == whole(out)
-    assert {it["TIME_PERIOD"][:4] for it in found} == {"2025", "2026", "2027"}
+    rows = rows_of(read(out, row["name"], "csv"))
+    assert applied(before, rows) == whole(out)
+    assert {attributes["TIME_PERIOD"][:4] for attributes in rows} == {"2025", "2026", "2027"}
 
 
 def test_an_office_without_sdmx_has_none(published: list[Published], tmp_path: Path) -> None:

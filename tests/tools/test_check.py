@@ -132,8 +132,8 @@ def test_the_prover_is_asked_as_rt_asks_it(clone: Clone) -> None:
         f"low={clone.library('low')}",
         f"left={clone.library('left')}",
     ]
-    folders = [str(Path(clone.library(it)).parent) for it in ("low", "left")]
-    assert pairs(line, "-L") == [f"dependency={it}" for it in (f"{clone.kit}/rlibs", *folders)]
+    folders = [str(Path(clone.library(text)).parent) for text in ("low", "left")]
+    assert pairs(line, "-L") == [f"dependency={folder}" for folder in (f"{clone.kit}/rlibs", *folders)]
     assert pairs(line, "--antt-project") == [f"{clone.kit}/rattle/logic/antt-project.json"]
     assert pairs(line, "--logic-built") == [f"{clone.kit}/logic_built"]
     assert pairs(line, "--incremental") == [f"{clone.top}/crates/high/out/incremental"]

@@ -60,12 +60,12 @@ def test_each_single_wrong_character_is_found() -> None:
 
 def test_nearly_each_exchange_of_neighbours_is_found() -> None:
     """Each one whose two values differ by more than 1; the others that aren't found are less than 1 in 200."""
-    found = [
+    keys = [
         (by, not is_right(wrong)) for key in drawn_keys(1000) for by, wrong in exchanged(key + check_character(key))
     ]
-    assert all(is_found for by, is_found in found if by > 1)
-    lost = sum(not is_found for _, is_found in found)
-    assert 0 < lost < len(found) / 200 and len(found) > 25_000
+    assert all(is_found for by, is_found in keys if by > 1)
+    lost = sum(not is_found for _, is_found in keys)
+    assert 0 < lost < len(keys) / 200 and len(keys) > 25_000
 
 
 @pytest.mark.parametrize("text", ["a", "0-1", " ", "\u0661"])

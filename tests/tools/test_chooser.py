@@ -73,13 +73,13 @@ def rows_of(path: Path) -> list[dict[str, str]]:
 
 
 def test_an_items_file_has_what_the_other_files_have(pack: Path) -> None:
-    given = {(it["month"], it["code"]): it for it in rows_of(pack / "data/contributions.csv") if it["of"] == "00"}
-    shown = {(it["month"], it["code"]): it for it in rows_of(pack / "data/printed.csv")}
+    given = {(row["month"], row["code"]): row for row in rows_of(pack / "data/contributions.csv") if row["of"] == "00"}
+    shown = {(row["month"], row["code"]): row for row in rows_of(pack / "data/printed.csv")}
     by_code: dict[str, list[dict[str, str]]] = {}
     for row in rows_of(pack / "data/cpi.csv"):
         by_code.setdefault(row["code"], []).append(row)
     vintages = rows_of(pack / "data/vintages.csv")
-    first = {(it["month"], it["code"]): it for it in reversed(vintages)}
+    first = {(vintage["month"], vintage["code"]): vintage for vintage in reversed(vintages)}
     different = 0
     for code, plain in by_code.items():
         rows = rows_of(pack / f"node/{code}.csv")
@@ -111,20 +111,20 @@ def test_divisions_add_up_to_what_all_items_give(pack: Path) -> None:
                     key = row["month"], name
                     sums[key] = sums.get(key, Fraction()) + Fraction(row[name])
     rows = rows_of(pack / "node/00.csv")
-    found = {(row["month"], name): Fraction(row[name]) for row in rows for name in names if row[name]}
-    assert found.keys() == sums.keys() and len(found) > 40
-    assert all(abs(value - sums[key]) < Fraction(len(divisions) + 1, 10**6) for key, value in found.items())
+    fractions = {(row["month"], name): Fraction(row[name]) for row in rows for name in names if row[name]}
+    assert fractions.keys() == sums.keys() and len(fractions) > 40
+    assert all(abs(value - sums[key]) < Fraction(len(divisions) + 1, 10**6) for key, value in fractions.items())
 
 
 def test_earlier_revisions_are_those_that_are_not_the_latest(pack: Path) -> None:
     """An item that the revision changed has its row of then, and another the latest row but for revision and moment."""
-    latest = {it["code"]: it for it in rows_of(pack / "data/cpi.csv") if it["month"] == REVISED}
-    revised = {it["code"]: it for it in rows_of(pack / "data/vintages.csv") if it["revision"] == "1"}
+    latest = {row["code"]: row for row in rows_of(pack / "data/cpi.csv") if row["month"] == REVISED}
+    revised = {row["code"]: row for row in rows_of(pack / "data/vintages.csv") if row["revision"] == "1"}
     (moment,) = (it["published"] for it in revised.values() if it["code"] == "00")
-    found = [row for path in pack.glob("node/*-earlier.csv") for row in rows_of(path)]
-    found.sort(key=lambda row: row["code"])
+    rows = [row for path in pack.glob("node/*-earlier.csv") for row in rows_of(path)]
+    rows.sort(key=lambda row: row["code"])
     wanted = [revised.get(code, {**it, "revision": "1", "published": moment}) for code, it in sorted(latest.items())]
-    assert found == wanted and 0 < len(revised) < len(latest)
+    assert rows == wanted and 0 < len(revised) < len(latest)
 
 
 def test_the_script_is_one_file_without_imports(pack: Path) -> None:
@@ -164,9 +164,11 @@ def test_an_index_is_what_the_pages_show(pack: Path, modules: Path) -> None:
       const { over, under, period } = lines.indexIn(rows, month, "2025");
       return [month, code, period, lines.decimal(over, under, 6), lines.decimal(over, under, 1)]; }); });"""
     )
-    moved = {(it["month"], it["code"]): it["rereferenced"] for it in rows_of(pack / "data/rereferenced.csv")}
-    chained = {(it["month"], it["code"]): it["chained"] for it in rows_of(pack / "data/cpi.csv")}
-    shown = {(it["month"], it["code"]): (it["reference"], it["index"]) for it in rows_of(pack / "data/printed.csv")}
+    moved = {(row["month"], row["code"]): row["rereferenced"] for row in rows_of(pack / "data/rereferenced.csv")}
+    chained = {(row["month"], row["code"]): row["chained"] for row in rows_of(pack / "data/cpi.csv")}
+    shown = {
+        (row["month"], row["code"]): (row["reference"], row["index"]) for row in rows_of(pack / "data/printed.csv")
+    }
     codes = sorted({code for _, code in chained})
     found = told(modules, program, str(pack), codes)
     assert len(found) == len(chained) and 0 < len(moved) < len(chained)
@@ -223,17 +225,17 @@ def test_a_revision_is_chosen_by_its_number_or_by_a_moment(pack: Path, modules: 
     return words[2].map((revision) => { const rows = rowsIn(words[1], revision, earlier), row = rows.get(words[3]);
       return row ? [rows.size, row.revision, row.chained, row.contribution_month !== ""] : [rows.size]; });"""
     )
-    both = [it for it in rows_of(pack / "data/vintages.csv") if (it["code"], it["month"]) == ("01", REVISED)]
+    both = [row for row in rows_of(pack / "data/vintages.csv") if (row["code"], row["month"]) == ("01", REVISED)]
     first, second = both
     assert first["chained"] != second["chained"]
     months = len(rows_of(pack / "node/01.csv"))
-    at = [it["published"] for it in both]
+    at = [row["published"] for row in both]
     asked = ["latest", "1", "2", "9", "1969-01-01T00:00:00Z", at[0], "9999-01-01T00:00:00Z"]
     now, then = [months, "2", second["chained"], True], [months, "1", first["chained"], False]
     found = told(modules, program, str(pack), "01", asked, REVISED)
     assert found[:5] == [now, then, now, now, [0]] and found[6] == now
-    published_by = {it["month"] for it in rows_of(pack / "data/releases.csv") if it["published"] <= at[0]}
-    assert found[5] == [len(published_by & {it["month"] for it in rows_of(pack / "node/01.csv")}), *then[1:]]
+    published_by = {row["month"] for row in rows_of(pack / "data/releases.csv") if row["published"] <= at[0]}
+    assert found[5] == [len(published_by & {row["month"] for row in rows_of(pack / "node/01.csv")}), *then[1:]]
 
 
 def test_figures_are_shortened_once(modules: Path) -> None:
@@ -241,7 +243,7 @@ def test_figures_are_shortened_once(modules: Path) -> None:
     pairs = [("0.314159", "0.31"), ("-0.316000", "-0.32"), ("-0.001000", "0.00"), ("0.005000", "0.005000"),
              ("0.005001", "0.01"), ("", ""), ("12", "12"), ("-0.995000", "-0.995000"), ("0.999999", "1.00")]  # fmt: skip
     program = "return words[0].map((text) => lines.shortened(text, 2));"
-    assert told(modules, program, [text for text, _ in pairs]) == [found for _, found in pairs]
+    assert told(modules, program, [text for text, _ in pairs]) == [pair for _, pair in pairs]
     signs = "return [['0.3', true], ['-0.3', true], ['0.0', true], ['', true], ['412', false]].map((it) => lines.signed(...it));"
     assert told(modules, signs) == ["+0.3", "−0.3", "0.0", "–", "412"]
 
@@ -306,7 +308,7 @@ def test_a_word_that_the_page_does_not_know_and_too_many_items(modules: Path) ->
     many = "+".join(f"01.1.1.1-{at:02}" for at in range(1, 22))
     found = told(modules, "return choice.choiceOf(words[0], words[1]);", f"?colour=red&items={many}", KNOWN)
     words = "this page doesn’t know this name; it knows items, show, from, to, hundred, revision, decimals"
-    assert [it["fault"] for it in found["faults"]] == [words, "it names 21 items, and the page shows at most 20"]
+    assert [fault["fault"] for fault in found["faults"]] == [words, "it names 21 items, and the page shows at most 20"]
     assert len(found["choice"]["items"]) == 20
 
 

@@ -37,7 +37,7 @@ def site(published: list[Published], tmp_path_factory: pytest.TempPathFactory) -
     with pytest.MonkeyPatch.context() as patch:
         patch.setattr("cpi_tools.publish.pack.cards_after", lambda _: NO_CARDS)
         out = tmp_path_factory.mktemp("cited") / "public"
-        upto = [it for it in published if it.name <= f"{REVISED}-r2.csv"]
+        upto = [publication for publication in published if publication.name <= f"{REVISED}-r2.csv"]
         publish(upto, CONFIG, out, None, lambda _: None)
     return out
 
@@ -51,24 +51,24 @@ SIGNS = {
 
 def entry_of(data: str) -> dict[str, str]:
     """The one record of a file of BibTeX, its fields as LaTeX prints them."""
-    (found,) = bibtexparser.loads(data, BibTexParser(common_strings=True)).entries
+    (entry,) = bibtexparser.loads(data, BibTexParser(common_strings=True)).entries
     form = re.compile("|".join(map(re.escape, SIGNS)))
-    return {name: form.sub(lambda sign: SIGNS[sign[0]], value).strip("{}") for name, value in found.items()}
+    return {name: form.sub(lambda sign: SIGNS[sign[0]], value).strip("{}") for name, value in entry.items()}
 
 
 def test_each_release_is_there_in_each_form_and_language(site: Path) -> None:
-    releases = {it.stem for it in (site / "release").glob("*.html")}
+    releases = {path.stem for path in (site / "release").glob("*.html")}
     assert f"{REVISED}-r2" in releases and len(releases) == 16
     for folder, ends in (("", (".bib", ".ris", ".datacite.xml")), ("fr/", (".bib", ".ris"))):
-        names = {it.name for it in (site / folder / "release").iterdir() if it.suffix not in (".html", ".txt")}
-        assert names == {f"{it}{end}" for it in releases for end in ends}
+        names = {path.name for path in (site / folder / "release").iterdir() if path.suffix not in (".html", ".txt")}
+        assert names == {f"{release}{end}" for release in releases for end in ends}
 
 
 def test_bibtex(site: Path) -> None:
-    found = entry_of((site / f"release/{REVISED}-r2.bib").read_text(encoding="utf-8"))
+    entries = entry_of((site / f"release/{REVISED}-r2.bib").read_text(encoding="utf-8"))
     headline = re.search("<h1>(.*?)</h1>", (site / f"release/{REVISED}-r2.html").read_text(encoding="utf-8"))
-    assert headline and found.pop("abstract") == f"{headline[1]}."
-    assert found == {
+    assert headline and entries.pop("abstract") == f"{headline[1]}."
+    assert entries == {
         "ENTRYTYPE": "misc", "ID": "NSO.PRICES-2026-03-r2", "author": "Office & <of> prices",
         "publisher": "Office & <of> prices", "title": "Consumer price index, March 2026, revision 2", "year": "1970",
         "month": "January", "version": "2", "language": "en", "copyright": "https://licence.example/by",
@@ -91,12 +91,12 @@ def test_ris(site: Path) -> None:
 def test_datacite_has_what_its_schema_asks_for(site: Path, published: list[Published]) -> None:
     """The six properties that are mandatory, and what is known besides."""
     root = ElementTree.parse(site / f"release/{REVISED}-r2.datacite.xml").getroot()
-    (table,) = (it.table for it in published if it.name == f"{REVISED}-r2.csv")
+    (table,) = (publication.table for publication in published if publication.name == f"{REVISED}-r2.csv")
 
     def text(path: str) -> str:
-        found = root.findall("/".join(KERNEL + it for it in path.split("/")))
-        assert len(found) == 1 and found[0].text
-        return found[0].text
+        matches = root.findall("/".join(KERNEL + word for word in path.split("/")))
+        assert len(matches) == 1 and matches[0].text
+        return matches[0].text
 
     assert root.tag == f"{KERNEL}resource"
     assert text("identifier") == "10.5072/cpi.2026-03-r2" and root[0].attrib == {"identifierType": "DOI"}
@@ -108,7 +108,7 @@ def test_datacite_has_what_its_schema_asks_for(site: Path, published: list[Publi
     assert text("sizes/size") == f"{len(table)} B" and text("relatedIdentifiers/relatedIdentifier") == "10.5072/cpi"
     (rights,) = root.findall(f"{KERNEL}rightsList/{KERNEL}rights")
     assert rights.attrib == {"rightsURI": "https://licence.example/by"}
-    assert {it.get(LANG) for it in root.iter() if it.get(LANG)} == {"en"}
+    assert {element.get(LANG) for element in root.iter() if element.get(LANG)} == {"en"}
 
 
 def test_the_page_leads_to_them(site: Path) -> None:
@@ -124,27 +124,27 @@ def test_without_address_and_doi(published: list[Published], tmp_path: Path) -> 
     out = tmp_path / "public"
     publish(published[:3], Config("NSO", "XX", "Office"), out, None, lambda _: None)
     assert not [*out.rglob("*.datacite.xml")] and "DataCite" not in words_of(out / "release/2025-01-r1.html")
-    found = entry_of((out / "release/2025-01-r1.bib").read_text(encoding="utf-8"))
+    entries = entry_of((out / "release/2025-01-r1.bib").read_text(encoding="utf-8"))
     (record,) = read_ris((out / "release/2025-01-r1.ris").read_bytes())
-    assert not {"doi", "url", "copyright"} & {*found} and not {"DO", "UR", "C1"} & {*record}
+    assert not {"doi", "url", "copyright"} & {*entries} and not {"DO", "UR", "C1"} & {*record}
 
 
 def test_texts_of_others_stay_in_their_fields() -> None:
     """Signs of LaTeX, brackets that aren't pairs, ends of lines, and what looks like another field or record."""
     bad = 'O} , x = {y \\ & % $ # _ ~ ^ "q" }}\r\nER  - \r\nTY  - BOOK\x00\u2028<b>'
-    it = Citation(
+    citation = Citation(
         "K", bad, bad, date(2026, 3, 5), 1, "en", bad, "https://a.example/x_y", "10.5072/a_b", bad, "10.5072/a", 9
     )
-    entry = entry_of(bibtex(it))
+    entry = entry_of(bibtex(citation))
     assert {*entry} == {
         "ENTRYTYPE", "ID", "author", "title", "year", "publisher", "version", "language", "copyright", "abstract", "doi", "url", "month",
     }  # fmt: skip
     plain = 'O} , x = {y \\ & % $ # _ ~ ^ "q" }} ER - TY - BOOK <b>'
     assert entry["title"] == entry["author"] == plain
     assert (entry["url"], entry["doi"]) == ("https://a.example/x_y", "10.5072/a_b")
-    (record,) = read_ris(ris(it).encode())
+    (record,) = read_ris(ris(citation).encode())
     assert record["AU"] == record["TI"] == [plain] and record["TY"] == ["DATA"]
-    root = ElementTree.fromstring(datacite(it))
+    root = ElementTree.fromstring(datacite(citation))
     assert root.findtext(f"{KERNEL}publisher") and "<b>" in (root.findtext(f"{KERNEL}publisher") or "")
 
 

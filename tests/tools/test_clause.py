@@ -48,7 +48,7 @@ def asked(levels: Path, expression: str, *given: object) -> Any:
 
 def level(published: list[Published], name: str, code: str) -> Fraction:
     """The chained level of an item in a published table."""
-    (table,) = [it.table.decode() for it in published if it.name == name]
+    (table,) = [publication.table.decode() for publication in published if publication.name == name]
     (row,) = [line.split(",") for line in table.splitlines() if line.startswith(f"{code},")]
     return Fraction(row[3])
 
@@ -168,8 +168,8 @@ def test_the_texts_to_take(levels: Path, published: list[Published]) -> None:
 def clause_of(levels: Path, code: str, more: str) -> str:
     """The text for a contract that an address asks for."""
     program = "(({ values }) => c.clauseText(c.computed(values, {}, data), data))(c.readAddress(given[0], data))"
-    found: str = asked(levels, program, address("2025-06", REVISED, 1, more, code))
-    return found
+    clause: str = asked(levels, program, address("2025-06", REVISED, 1, more, code))
+    return clause
 
 
 def test_a_clause_names_the_month_the_revision_and_what_follows(levels: Path) -> None:

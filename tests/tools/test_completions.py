@@ -220,8 +220,8 @@ def test_fish_completes_a_word(files: Path, tmp_path: Path, line: str, wanted: l
     kept = {"PATH": "/usr/bin:/bin", "HOME": str(tmp_path)}
     fish = [needed("fish"), "--no-config", "-c", commands]
     ran = subprocess.run(fish, capture_output=True, text=True, check=False, cwd=tmp_path, env=kept)
-    found = [row.split("\t")[0].split("=")[-1] for row in ran.stdout.splitlines()]
-    assert (ran.returncode, sorted(found)) == (0, sorted(wanted)), ran.stderr
+    words = [row.split("\t")[0].split("=")[-1] for row in ran.stdout.splitlines()]
+    assert (ran.returncode, sorted(words)) == (0, sorted(wanted)), ran.stderr
 
 
 # ---- for a clone

@@ -67,7 +67,10 @@ def pack(first: Path, tmp_path: Path) -> Path:
 
 def latest(published: list[Published]) -> dict[str, bytes]:
     """The bytes of the latest table of each month."""
-    return {it.listed.month: it.table for it in sorted(published, key=lambda it: it.listed[:2])}
+    return {
+        publication.listed.month: publication.table
+        for publication in sorted(published, key=lambda publication: publication.listed[:2])
+    }
 
 
 @pytest.fixture(scope="module")
@@ -134,10 +137,10 @@ def test_they_are_those_of_fractions_whatever_the_changes() -> None:
         levels = [max(1, base * drawn.choice([100, 101, drawn.randint(50, 200)]) // 100) for base in bases]
         weights = [drawn.randint(1, 10 ** drawn.randint(1, 6)) for _ in range(count)]
         lower, upper = drawn.choice([(0, 1), (1500, 1500), (drawn.randint(1, 4999), drawn.randint(1, 5000))])
-        found = Changes(levels, bases, weights)
+        changes = Changes(levels, bases, weights)
         plain = [(Fraction(level, base) - 1, Fraction(weight)) for level, base, weight in zip(levels, bases, weights)]
         for of in (MEDIAN, ITEMS, WEIGHT, TRIM._replace(lower=lower, upper=upper)):
-            units = found.figure(of)
+            units = changes.figure(of)
             text = figure_of(measure(of), plain)
             assert text is not None and units == int(Fraction(text) * 10), (of, levels, bases, weights)
 
@@ -217,7 +220,7 @@ def test_pages_have_them(first: Path, again: dict[tuple[str, str, str], str]) ->
     signed = f"\u2212{median[1:]}" if median.startswith("-") else f"+{median}"
     for text in (page, home):
         assert "Analytical core inflation" in text and f"{signed}\u202f%" in text and f">{share}\u202f%" in text
-    captions, headings = (re.findall(f"<{it}[^>]*>(.*?)</{it}>", page) for it in ("caption", "h2"))
+    captions, headings = (re.findall(f"<{text}[^>]*>(.*?)</{text}>", page) for text in ("caption", "h2"))
     assert len(captions) == len(headings) == 2 and not {*captions} & {*headings}
     words = words_of(first / "core.html")
     assert "without 24 percent of the total weight at the lower end and 31.25 percent at the upper end" in words
@@ -283,7 +286,7 @@ def test_sums_of_a_manifest_guard_them_without_their_file(published: list[Publis
 
 def test_a_dated_definition_leaves_earlier_figures_as_they_are(published: list[Published], tmp_path: Path) -> None:
     pack = tmp_path / "public"
-    put([it for it in published if it.listed.month < "2027"], pack)
+    put([publication for publication in published if publication.listed.month < "2027"], pack)
     then = by_csv(pack / "data/core.csv")
     later = TRIM._replace(lower=4000, upper=4000, since="2027-01")
     gone = MEDIAN._replace(measure="", since="2027-01")
@@ -313,7 +316,7 @@ def test_a_definition_for_all_months_needs_a_reason_and_keeps_the_old_figures(
         month
         for name, _, month in then
         if name == "TRIM"
-        and any(then.get((name, it, month)) != now.get((name, it, month)) for it in ("monthly", "annual"))
+        and any(then.get((name, text, month)) != now.get((name, text, month)) for text in ("monthly", "annual"))
     }
     lines = [row for row in rows_of(pack / "data/vintages.csv") if row["code"] == "TRIM"]
     assert {row["month"] for row in lines} == changed and changed
@@ -336,7 +339,11 @@ def test_a_definition_for_all_months_needs_a_reason_and_keeps_the_old_figures(
 
 def test_a_revision_keeps_the_earlier_figures(published: list[Published], first: Path) -> None:
     """The revision of a month that was out changes its figures; a later month hadn't any then."""
-    tables = {it.listed.month: it.table for it in published if it.listed.month <= REVISED and it.listed.revision == 1}
+    tables = {
+        publication.listed.month: publication.table
+        for publication in published
+        if publication.listed.month <= REVISED and publication.listed.revision == 1
+    }
     lines = [row for row in rows_of(first / "data/vintages.csv") if row["code"] == "TRIM" and row["month"] == REVISED]
     earlier, later = core_again(tables, measure(TRIM))[REVISED], core_again(latest(published), measure(TRIM))[REVISED]
     assert earlier != later
@@ -346,7 +353,7 @@ def test_a_revision_keeps_the_earlier_figures(published: list[Published], first:
 
 def test_a_pack_goes_on_month_by_month_as_from_nothing(published: list[Published], first: Path, tmp_path: Path) -> None:
     for last in ("2026-02", "2026-12", "2027-06"):
-        put([it for it in published if it.listed.month <= last], tmp_path / "public")
+        put([publication for publication in published if publication.listed.month <= last], tmp_path / "public")
     ours = ("data/core.csv", "data/vintages.csv", "data/core.px", "core.html")
     assert all((tmp_path / "public" / name).read_bytes() == (first / name).read_bytes() for name in ours)
 
@@ -392,8 +399,12 @@ def test_rows_of_the_file_are_read() -> None:
         ["M", "Trimmed", "trimmed-mean", "24 31.25", "2027-01"],
         ["M", "Trimmed", "", "", "2028-01"],
     ]
-    found = definitions_of([wide, *rows])
-    assert [it[3:] for it in found] == [(750, 750, ""), (2400, 3125, "2027-01"), (0, 0, "2028-01")]
+    definitions = definitions_of([wide, *rows])
+    assert [definition[3:] for definition in definitions] == [
+        (750, 750, ""),
+        (2400, 3125, "2027-01"),
+        (0, 0, "2028-01"),
+    ]
     for bad, says in (
         ([rows[0], rows[0]], "M has two rows"),
         ([rows[2]], "M ends before it is anything"),
@@ -423,5 +434,5 @@ def test_changes_that_binary_fractions_don_t_tell_apart_are_in_order() -> None:
     base, other = 10**16 + 1, 10**16 + 3
     level, lesser = 2 * base + 1, 2 * other
     assert level / base == lesser / other and Fraction(lesser, other) < Fraction(level, base)
-    found = Changes([level, lesser], [base, other], [1, 1])
-    assert (found._levels, found._bases) == ([lesser, level], [other, base])
+    changes = Changes([level, lesser], [base, other], [1, 1])
+    assert (changes._levels, changes._bases) == ([lesser, level], [other, base])

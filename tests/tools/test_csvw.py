@@ -36,7 +36,7 @@ def pack(published: list[Published], tmp_path_factory: pytest.TempPathFactory) -
 def test_each_file_is_as_its_metadata_say(pack: Path) -> None:
     files = sorted(pack.rglob("*.csv"))
     # (an item's file and that of its earlier revisions, and of the set)
-    assert len([it for it in files if it.parent.name == "node"]) > CODES + 1 and len(files) > 80
+    assert len([file for file in files if file.parent.name == "node"]) > CODES + 1 and len(files) > 80
     assert {
         "quality.csv",
         "headline.sdmx.csv",
@@ -44,15 +44,15 @@ def test_each_file_is_as_its_metadata_say(pack: Path) -> None:
         "aggregate-members.csv",
         "rereferenced.csv",
         "cpi.sdmx.csv",
-    } <= {it.name for it in files}
+    } <= {file.name for file in files}
     assert [fault for path in files for fault in faults_of(path)] == []
 
 
 def test_each_column_has_a_description_in_each_language(pack: Path) -> None:
     for path in pack.rglob("*.csv"):
-        found = metadata_of(path)
-        assert found
-        for column in schema_of(path, *found)["columns"]:
+        metadata = metadata_of(path)
+        assert metadata
+        for column in schema_of(path, *metadata)["columns"]:
             if column["name"] in ("STRUCTURE", "STRUCTURE_ID", "ACTION"):
                 assert "dc:description" not in column
                 continue
@@ -64,9 +64,9 @@ def test_each_column_has_a_description_in_each_language(pack: Path) -> None:
 
 def test_types_say_what_a_column_is(pack: Path) -> None:
     def columns(name: str) -> dict[str, dict[str, object]]:
-        found = metadata_of(pack / name)
-        assert found
-        return {it["name"]: it for it in schema_of(pack / name, *found)["columns"]}
+        metadata = metadata_of(pack / name)
+        assert metadata
+        return {column["name"]: column for column in schema_of(pack / name, *metadata)["columns"]}
 
     found = columns("data/cpi.csv")
     kinds = {name: it["datatype"] for name, it in found.items()}
@@ -106,24 +106,26 @@ def test_the_reader_sees_what_is_otherwise(pack: Path, tmp_path: Path, old: str,
         old, new = "\n2026-01", "\n,2026-01"
     assert old in text
     (tmp_path / "cpi.csv").write_text(text.replace(old, new), encoding="utf-8")
-    assert [it for it in faults_of(tmp_path / "cpi.csv") if said in it]
+    assert [fault for fault in faults_of(tmp_path / "cpi.csv") if said in fault]
 
 
 def test_the_files_of_items_have_their_columns_once(pack: Path) -> None:
     """An office has thousands of items: for each of them there is a line, and no more."""
     found = json.loads((pack / "node/csv-metadata.json").read_text(encoding="utf-8"))
-    assert {tuple(sorted(it)) for it in found["tables"]} == {("url",), ("tableSchema", "url")}
-    assert {it["url"] for it in found["tables"]} == {it.name for it in (pack / "node").glob("*.csv")}
-    assert {it.get("tableSchema") for it in found["tables"]} == {None, "earlier-schema.json"}
+    assert {tuple(sorted(table)) for table in found["tables"]} == {("url",), ("tableSchema", "url")}
+    assert {table["url"] for table in found["tables"]} == {path.name for path in (pack / "node").glob("*.csv")}
+    assert {table.get("tableSchema") for table in found["tables"]} == {None, "earlier-schema.json"}
 
 
 def test_a_pack_without_revisions_has_no_columns_of_them(published: list[Published], tmp_path: Path) -> None:
     publish(published[:3], Config("NSO", "XX", "Office"), tmp_path / "public", None, lambda _: None)
-    assert [it.name for it in (tmp_path / "public/node").glob("*.json")] == ["csv-metadata.json"]
+    assert [path.name for path in (tmp_path / "public/node").glob("*.json")] == ["csv-metadata.json"]
     assert [fault for path in (tmp_path / "public").rglob("*.csv") for fault in faults_of(path)] == []
 
 
 def test_each_known_column_is_of_some_file(pack: Path) -> None:
     """So a column that was renamed is seen."""
-    heads = {name for it in pack.rglob("*.csv") for name in it.read_text(encoding="utf-8").split("\n")[0].split(",")}
+    heads = {
+        name for path in pack.rglob("*.csv") for name in path.read_text(encoding="utf-8").split("\n")[0].split(",")
+    }
     assert COLUMNS.keys() - heads == {"COICOP18"}

@@ -47,20 +47,20 @@ def per_mille(weight: int, of_all: int) -> Decimal:
 @pytest.fixture(scope="module")
 def wanted(pack: Path) -> Cells:
     """All figures by the CSV files: items and special aggregates."""
-    found: Cells = {}
+    cells: Cells = {}
     data = pack / "data"
     of_all = {row["month"]: int(row["weight"]) for row in rows_of(data / "cpi.csv") if row["code"] == "00"}
     for row in rows_of(data / "cpi.csv") + rows_of(data / "aggregates.csv"):
         for name in ("chained", "month_change", "year_change", "weight", "imputed"):
-            found[row["code"], name, row["month"]] = Decimal(row[name]) if row[name] else None
-        found[row["code"], "index", row["month"]] = Decimal(row["chained"])
-        found[row["code"], "share", row["month"]] = per_mille(int(row["weight"]), of_all[row["month"]])
+            cells[row["code"], name, row["month"]] = Decimal(row[name]) if row[name] else None
+        cells[row["code"], "index", row["month"]] = Decimal(row["chained"])
+        cells[row["code"], "share", row["month"]] = per_mille(int(row["weight"]), of_all[row["month"]])
     for row in rows_of(data / "rereferenced.csv"):
-        found[row["code"], "index", row["month"]] = Decimal(row["rereferenced"])
+        cells[row["code"], "index", row["month"]] = Decimal(row["rereferenced"])
     for row in rows_of(data / "contributions.csv") + rows_of(data / "aggregate-contributions.csv"):
         if row["of"] == "00" and row["contribution_year"]:
-            found[row["code"], "contribution", row["month"]] = Decimal(row["contribution_year"])
-    return {key: value for key, value in found.items() if value is not None}
+            cells[row["code"], "contribution", row["month"]] = Decimal(row["contribution_year"])
+    return {key: value for key, value in cells.items() if value is not None}
 
 
 @pytest.fixture(scope="module")
@@ -115,17 +115,17 @@ def test_px_has_each_figure(pack: Path, wanted: Cells) -> None:
     assert (stub, heading, head["CONTVARIABLE"]) == (["Item"], ["Figure", "Month"], ["Figure"])
     codes = [head[f'CODES("{name}")'] for name in (*stub, *heading)]
     values = [head[f'VALUES("{name}")'] for name in (*stub, *heading)]
-    assert [len(it) for it in codes] == [len({*it}) for it in values] == [len(it) for it in values]
-    assert head['TIMEVAL("Month")'] == ["TLIST(M1)", *(it.replace("M", "") for it in codes[2])]
+    assert [len(code) for code in codes] == [len({*value}) for value in values] == [len(value) for value in values]
+    assert head['TIMEVAL("Month")'] == ["TLIST(M1)", *(code.replace("M", "") for code in codes[2])]
     assert codes[2][0] == "2025M01"
     keys = [*itertools.product(*codes)]
     assert len(keys) == len(cells)
-    found = {
+    numbers = {
         (item, measure, month.replace("M", "-")): Decimal(cell)
         for (item, measure, month), cell in zip(keys, cells)
         if cell != '".."'
     }
-    assert found == wanted
+    assert numbers == wanted
     assert max(map(len, (pack / "data/cpi.px").read_text(encoding="utf-8").splitlines())) <= 256
 
 

@@ -72,7 +72,7 @@ def test_a_window_that_was_sent_stays_sent_if_the_file_can_t_be_written(
 ) -> None:
     calendar.write_text("a letter of somebody's\n", encoding="utf-8")
     judged = ada.follow(ada.fill("/records", "/records/judge", text=f"calendar,2096-09,{FAR - 9},{FAR},{FAR}\n"))
-    (form,) = [it for it in forms_of(judged.text) if it.action == "/records/send"]
+    (form,) = [form for form in forms_of(judged.text) if form.action == "/records/send"]
     assert OLD not in judged.text
     answer = ada.follow(ada.give(form))
     assert "1 of 1 done." in words_of(answer.text) and OLD in unescape(answer.text)

@@ -104,9 +104,9 @@ def level_of(path: Path, month: int) -> Fraction | None:
     """The chained level of all items in a month: 100 in the first, None before it."""
     with asked(path) as link:
         text = "SELECT chained FROM level_2 WHERE month = ? AND code = '00' ORDER BY revision DESC"
-        found = link.execute(text, (month,)).fetchone()
-    if found:
-        return Fraction(found[0], 10**6)
+        level = link.execute(text, (month,)).fetchone()
+    if level:
+        return Fraction(level[0], 10**6)
     return Fraction(100) if month == 202512 else None
 
 
@@ -463,7 +463,7 @@ def test_a_folder_that_holds_other_files_is_left_alone(cpi: Cpi, small: Path, tm
     (out / "mine.txt").write_text("mine")
     ran = run(cpi, "desk", "month", small, "2026-02", "--at", 4000, "--out", out)
     assert ran.status == 1 and "is there already, and isn't a folder that this tool wrote" in ran.err
-    assert [it.name for it in out.iterdir()] == ["mine.txt"]
+    assert [path.name for path in out.iterdir()] == ["mine.txt"]
 
 
 def test_a_file_that_is_no_office_is_one_line(cpi: Cpi, tmp_path: Path) -> None:

@@ -286,11 +286,11 @@ def test_a_month_at_a_glance_worked_by_hand(ada: Person) -> None:
     assert "silent slots 0" in words and "missing, with a reason 2" in words
     assert "closed, not frozen" in words
     rows = [*csv.DictReader(io.StringIO(ada.get("/month/2026-02/glance/collectors.csv").text))]
-    assert [(it["collector"], it["slots"], it["priced"], it["missing"], it["silent"]) for it in rows] == [
+    assert [(row["collector"], row["slots"], row["priced"], row["missing"], row["silent"]) for row in rows] == [
         ("7", "2", "0", "2", "0"),
         ("8", "1", "1", "0", "0"),
     ]
-    assert [it["last month with an entry"] for it in rows] == ["2026-02", "2026-02"]
+    assert [row["last month with an entry"] for row in rows] == ["2026-02", "2026-02"]
     (row,) = csv.DictReader(io.StringIO(ada.get("/month/2026-02/glance/divisions.csv").text))
     assert (row["division"], row["slots"], row["percent by weight"]) == ("01", "3", "30.0")
     assert ada.get("/month/2026-02/glance/divisions.csv").headers["Content-Type"] == "text/csv; charset=utf-8"
@@ -313,7 +313,7 @@ def test_the_glance_follows_the_office_and_hears_collectors(application: Applica
     words = ada.words("/month/2026-02/")
     assert "priced 66.7 % 2 of 3" in words and "priced, by weight 60.0 %" in words
     rows = [*csv.DictReader(io.StringIO(ada.get("/month/2026-02/glance/collectors.csv").text))]
-    seen = {it["collector"]: it["last entry seen"] for it in rows}
+    seen = {row["collector"]: row["last entry seen"] for row in rows}
     assert seen["8"] == "" and re.fullmatch(r"20\d\d-\d\d-\d\d \d\d:\d\d UTC", seen["7"])
 
 
@@ -331,9 +331,9 @@ def test_the_glance_follows_the_office_and_hears_collectors(application: Applica
 def test_the_time_that_is_left_is_told(seconds: int, says: str) -> None:
     at = 1_000_000
     window = Window(202602, 0, at + seconds, at + 9_000_000)
-    found = Glance(at, State(202602, window, 0, False), Share(0, 0, None), 0, 0, [])
-    assert time_left(found, at) == says
-    opening = found._replace(state=State(202602, window._replace(opens=at + 7200, closes=at + 9000), 0, False))
+    glance = Glance(at, State(202602, window, 0, False), Share(0, 0, None), 0, 0, [])
+    assert time_left(glance, at) == says
+    opening = glance._replace(state=State(202602, window._replace(opens=at + 7200, closes=at + 9000), 0, False))
     assert time_left(opening, at) == "2 hours and 0 minutes"
 
 
@@ -342,7 +342,7 @@ def test_earlier_months_are_set_beside_a_month(tmp_path: Path) -> None:
     for month, after, priced in ((202601, 1000, 10), (202601, 1500, 15), (202601, 2000, 20), (202602, 900, 40)):
         seen.note(Seen(month, after, 80, priced, -1))
     again = Observed(tmp_path)
-    assert [it.after for it in again.rows] == [1000, 2000, 900]
+    assert [row.after for row in again.rows] == [1000, 2000, 900]
     found = again.expect(202603, 1999)
     assert found and [*found.months] == [(202602, "50.0"), (202601, "12.5")]
     assert again.expect(202602, 500) is None and again.expect(202601, 5000) is None

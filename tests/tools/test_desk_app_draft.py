@@ -58,14 +58,14 @@ def test_a_draft_is_marked_shown_in_each_language_and_logged(application: Applic
     assert pdf.headers["Content-Type"] == "application/pdf"
     assert pdf.headers["Content-Disposition"] == f'attachment; filename="draft-{MONTH}-r1-en.pdf"'
     # (at the head and at the foot of each of both pages)
-    assert [it.count(mark) for it in words_in(pdf.data)] == [2, 2]
-    steps = [(it.by, it.text) for it in application.desk.log.entries if "opened the draft" in it.text]
+    assert [word.count(mark) for word in words_in(pdf.data)] == [2, 2]
+    steps = [(entry.by, entry.text) for entry in application.desk.log.entries if "opened the draft" in entry.text]
     of = f"opened the draft of the release of {MONTH}, revision 1:"
     assert steps[:3] == [(ADA, f"{of} page, en"), (ADA, f"{of} page, en"), (ADA, f"{of} page, ar")]
     assert steps[-1] == (BEN, f"{of} PDF, en")
     site = application.desk.given.site
     assert site and not site.folder.exists()
-    assert not [it for it in Path(application.desk.given.room).rglob("*") if it.suffix in (".pdf", ".html")]
+    assert not [path for path in Path(application.desk.given.room).rglob("*") if path.suffix in (".pdf", ".html")]
 
 
 def test_nobody_sees_it_who_isnt_signed_in(application: Application) -> None:

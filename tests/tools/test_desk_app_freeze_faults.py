@@ -63,8 +63,8 @@ def test_without_an_office_nothing_is_frozen_and_it_stays_prepared(cpi: Cpi, tmp
     answer = ben.give(form, **SIGNED)
     assert answer.status_code == 503 and "Nothing was sent: The office at" in words_of(answer.text)
     assert kept(application) and "Prepared, but not sent yet" in ben.words(PAGE)
-    assert [it[0] for it in frozen_months(application)] == BEFORE
-    log = [(it.what, it.by) for it in application.desk.log.entries[-3:]]
+    assert [month[0] for month in frozen_months(application)] == BEFORE
+    log = [(entry.what, entry.by) for entry in application.desk.log.entries[-3:]]
     assert log == [("said", BEN), ("sent", BEN), ("not sent", BEN)]
     application.desk.close()
 
@@ -110,7 +110,7 @@ def test_a_refusal_of_the_office_is_told_and_logged(prepared: Application, monke
     assert answer.status_code == 409 and "is frozen, revision 1" not in words
     refused = prepared.desk.log.entries[-1]
     assert refused.what == "answered" and refused.replies == [{"refused": 50}] and "refused by 50" in ben.words("/log")
-    assert not kept(prepared) and [it[0] for it in frozen_months(prepared)] == [*BEFORE, 202602]
+    assert not kept(prepared) and [month[0] for month in frozen_months(prepared)] == [*BEFORE, 202602]
 
 
 def test_a_full_disk_or_a_wrong_file_is_told(

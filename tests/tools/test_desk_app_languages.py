@@ -135,7 +135,9 @@ def test_the_figures_are_the_same_in_arabic_with_its_own_digits(cpi: Cpi, tmp_pa
             ada = application.person(ADA)
             application.tried(ada, MONTH)
             pages = [ada.get(f"/month/{MONTH}/{page}").text for page in ("", "table")]
-            found[code] = [[it.translate(FIGURES).translate(EASTERN) for it in seen_of(page).figures] for page in pages]
+            found[code] = [
+                [figure.translate(FIGURES).translate(EASTERN) for figure in seen_of(page).figures] for page in pages
+            ]
             assert ('<html lang="ar" dir="rtl">' in pages[0]) == (code == "ar")
             assert bool(re.search("[٠-٩]", seen_text(pages[0]))) == (code == "ar")
     assert found["en"] == found["ar"] and min(map(len, found["en"])) > 10

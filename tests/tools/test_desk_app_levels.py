@@ -67,7 +67,7 @@ def published(cpi: Cpi, file: Path, folder: Path, reference: str) -> dict[str, t
 @pytest.mark.parametrize("reference", ["2026", "2026-06", "2025-12"])
 def test_each_level_is_the_one_that_is_published(cpi: Cpi, office: Path, tmp_path: Path, reference: str) -> None:
     others = other_tables(cpi, office, 202701)
-    own = next(it for it in all_tables(cpi, office) if it[0] == MONTH)
+    own = next(table for table in all_tables(cpi, office) if table[0] == MONTH)
     levels = levels_of(others, MONTH, own[1], reference)
     site = published(cpi, office, tmp_path, reference)
     assert "00" in site and len(site) > 10
@@ -78,7 +78,7 @@ def test_each_level_is_the_one_that_is_published(cpi: Cpi, office: Path, tmp_pat
 
 def all_tables(cpi: Cpi, office: Path) -> list[tuple[str, bytes]]:
     """The latest table of each month."""
-    return [(it.listed.month, it.table) for it in other_tables(cpi, office, 209912)]
+    return [(table.listed.month, table.table) for table in other_tables(cpi, office, 209912)]
 
 
 def test_a_period_without_tables_leaves_the_chained_level(cpi: Cpi, office: Path) -> None:

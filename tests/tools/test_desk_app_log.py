@@ -41,7 +41,7 @@ def test_what_is_written_is_read_again(tmp_path: Path) -> None:
     entries = log.entries
     log.close()
     again = DeskLog(tmp_path / "log")
-    assert again.entries == entries and [it.number for it in again.open_entries()] == [3]
+    assert again.entries == entries and [entry.number for entry in again.open_entries()] == [3]
     again.append("Ben", NOT_SENT, of=3)
     assert not again.open_entries() and (tmp_path / "log").stat().st_mode & 0o777 == 0o600
     again.close()
@@ -81,7 +81,7 @@ def test_a_line_that_was_cut_off_stays_and_is_told(tmp_path: Path) -> None:
     log.append("Ada", SAID, text="further")
     log.close()
     again = DeskLog(path)
-    assert [it.what for it in again.entries][-2:] == [CUT_OFF, SAID]
+    assert [entry.what for entry in again.entries][-2:] == [CUT_OFF, SAID]
     again.close()
     path.write_bytes(path.read_bytes().replace(b'"what":"cut off"', b'"what":"said"'))
     with pytest.raises(BrokenLog):
@@ -113,7 +113,7 @@ def test_lines_are_searched_by_words(tmp_path: Path) -> None:
     log = filled(tmp_path / "log")
     log.append("Ben", LOOKED_UP, of=3, replies=[{"absent": True, "refused": 47}])
     lines = lines_of(log.entries)
-    assert [it.by for it in lines] == ["Ada", "Ben", "Ben"]
+    assert [line.by for line in lines] == ["Ada", "Ben", "Ben"]
     assert "would be refused by 47: the window hasn't closed" in lines[1].answer
     assert [it.number for it in search(lines, "BEN freeze")] == [3]
     assert not search(lines, "nothing of it")
@@ -129,5 +129,5 @@ def test_a_line_that_has_no_room_isn_t_there_at_all(tmp_path: Path, monkeypatch:
     log.append("Ada", SAID, text="room again")
     log.close()
     again = DeskLog(tmp_path / "log")
-    assert [it.text for it in again.entries][-2:] == ["prepared", "room again"]
+    assert [entry.text for entry in again.entries][-2:] == ["prepared", "room again"]
     again.close()

@@ -58,8 +58,8 @@ def test_a_page_names_the_file_that_has_its_other_rows(
     """There are two collectors: of one row a page, the other one is in the file."""
     found, glance = tried.desk.trials.latest(202602), tried.desk.watch.glance(202602)
     assert found
-    report = found.report._replace(sections=[it._replace(shown=1) for it in found.report.sections])
-    short = glance._replace(sections=[it._replace(shown=1) for it in glance.sections])
+    report = found.report._replace(sections=[section._replace(shown=1) for section in found.report.sections])
+    short = glance._replace(sections=[section._replace(shown=1) for section in glance.sections])
     monkeypatch.setattr(tried.desk.trials, "latest", lambda month: found._replace(report=report))
     monkeypatch.setattr(tried.desk.watch, "glance", lambda month: short)
     for page, file in (("table", "table/collectors.csv"), ("", "glance/collectors.csv")):
@@ -148,7 +148,7 @@ def test_prices_that_are_unusual_come_in_the_order_of_their_weight(cpi: Cpi, tmp
     with applied(cpi, path, tmp_path / "room") as application:
         application.tried(ada := application.person(ADA), MONTH)
         found = application.desk.trials.latest(202602)
-        assert found and [(it.name, it.why) for it in found.looks] == [
+        assert found and [(look.name, look.why) for look in found.looks] == [
             ("7/1", ["confirmed"]),
             ("7/2", ["a replacement of another quality"]),
         ]
@@ -169,7 +169,7 @@ def test_marks_are_of_one_price_and_outlive_a_crash(tmp_path: Path) -> None:
     path.write_bytes(whole + whole[:20])
     again = Marks(path)
     assert (again.seen_by(ADA, 202602), again.seen_by(BEN, 202602)) == ({price}, set())
-    assert [it.text for it in again.notes_of(202602)[price]] == ["a note"] and path.read_bytes() == whole
+    assert [note.text for note in again.notes_of(202602)[price]] == ["a note"] and path.read_bytes() == whole
     assert again.seen_by_anybody(202602) == {price} and again.seen_by_anybody(202603) == set()
     with pytest.raises(Fault, match="at most 1,000 characters"):
         again.add(ADA, price, NOTE, "x" * 1001)
@@ -216,7 +216,7 @@ def frozen_months(application: Application) -> list[tuple[int, tuple[str, ...]]]
         from cpi_tools.office.stored import read_copy
 
         with read_copy(copy.path) as office:
-            return [(it.month, it.carry) for it in office.releases()]
+            return [(release.month, release.carry) for release in office.releases()]
 
 
 def test_two_people_freeze_a_month(tried: Application, ada: Person) -> None:
@@ -231,10 +231,10 @@ def test_two_people_freeze_a_month(tried: Application, ada: Person) -> None:
     form = ben.form(page, "/confirm")
     for same in (ADA, "ADA", "\uff21da"):
         own = tried.person(same)
-        assert not [it for it in forms_of(own.get(page).text) if it.action.endswith("/confirm")]
+        assert not [form for form in forms_of(own.get(page).text) if form.action.endswith("/confirm")]
         answer = own.post(form.action, **{**dict(form.fields), "token": own.token, **SIGNED})
         assert answer.status_code == 403 and "another person has to confirm it" in words_of(answer.text)
-    assert [it[0] for it in frozen_months(tried)] == [202512, 202601]
+    assert [month[0] for month in frozen_months(tried)] == [202512, 202601]
     assert "February 2026 is frozen, revision 1" in told(ben, "confirm", **SIGNED)
     assert frozen_months(tried)[-1] == (202602, (CODE,))
     assert "There is no longer a prepared freeze: Ben sent it or discarded it" in words_of(
@@ -273,7 +273,7 @@ def test_a_freeze_that_would_make_another_table_isn_t_sent(tried: Application, a
         and "the table would be different: discard the freeze, and prepare it again" in answer.text
     )
     assert f'value="{SIGNED["because"]}"' in answer.text
-    assert [it[0] for it in frozen_months(tried)] == [202512, 202601]
+    assert [month[0] for month in frozen_months(tried)] == [202512, 202601]
     assert PreparedFreeze(tried.room / "prepared-freeze.json").read()
     tried.tried(ben, MONTH)
     words = ben.words(page)

@@ -38,7 +38,7 @@ PAGES: dict[str, list[str]] = {
     "month.glance": [f"/month/{MONTH}/", f"/month/{MONTH}/?still=1"],
     "looks.show": [LOOKS, f"{LOOKS}?show=all"],
     "table.show": [f"/month/{MONTH}/table"],
-    "table.explain": [f"/month/{MONTH}/explain/{it}" for it in ("00", "01", "01.1.1.1-01", "01.1.1.2-01")],
+    "table.explain": [f"/month/{MONTH}/explain/{text}" for text in ("00", "01", "01.1.1.1-01", "01.1.1.2-01")],
     "table.what_if_page": [f"/month/{MONTH}/what-if"],
     "draft.show": [f"/month/{MONTH}/release", f"/month/{MONTH}/release?language=en"],
     "freeze.show": [FREEZE],
@@ -50,10 +50,10 @@ PAGES: dict[str, list[str]] = {
     "calendar.show_year": ["/calendar/2026", "/calendar/2027"],
     "sample.first": ["/sample"],
     "sample.show": [
-        f"/sample/{it}" for it in ("items", "outlets", "collectors", "assignments", "handovers", "calendar")
+        f"/sample/{text}" for text in ("items", "outlets", "collectors", "assignments", "handovers", "calendar")
     ],
     "year.first": ["/year"],
-    "year.show": [f"{YEAR}?sheet={it}" for it in ("weights", "classification", "places", "series", "few-series")],
+    "year.show": [f"{YEAR}?sheet={text}" for text in ("weights", "classification", "places", "series", "few-series")],
     "publish.show": ["/publish"],
     "records.show": ["/records"],
     "records.show_sent": ["/records/sent"],
@@ -119,7 +119,7 @@ class Controls(HTMLParser):
 def titled() -> str:
     """The plan of the small office with other titles."""
     rows = [*csv.reader(io.StringIO(RICE_AND_FLOUR))]
-    for number, row in enumerate(it for it in rows if it[0] == "T"):
+    for number, row in enumerate(row for row in rows if row[0] == "T"):
         row[2] = NAMES[number % len(NAMES)]
     return "".join(f"{line_of(row)}\n" for row in rows)
 
@@ -187,12 +187,12 @@ def faults_of(page: str) -> list[str]:
     read.feed(page)
     return [
         *Controls().of_page(page),
-        *(it for it in read.faults if not it.startswith(("not its own: ", "textarea: "))),
+        *(fault for fault in read.faults if not fault.startswith(("not its own: ", "textarea: "))),
     ]
 
 
 def test_each_page_is_opened(application: Application) -> None:
-    views = {it.endpoint for it in application.app.url_map.iter_rules() if "GET" in (it.methods or ())}
+    views = {rule.endpoint for rule in application.app.url_map.iter_rules() if "GET" in (rule.methods or ())}
     assert views == PAGES.keys() | FILES & views and not PAGES.keys() & FILES
 
 

@@ -84,7 +84,7 @@ def test_what_is_out_is_published_now_and_nothing_else(application: Application,
     words = written(publisher, ada)
     assert "2 tables up to 2026-01, 8 items" in words and "On the website 2 " in words and "Write it again" in words
     tables = json.loads((tmp_path / "public/manifest.json").read_text(encoding="utf-8"))["tables"]
-    assert [(it["month"], it["revision"]) for it in tables] == [("2025-12", 1), ("2026-01", 1)]
+    assert [(table["month"], table["revision"]) for table in tables] == [("2025-12", 1), ("2026-01", 1)]
     assert (tmp_path / "public/index.html").stat().st_mode & 0o044 == 0o044
     page = ada.get("/publish").text
     assert 'href="https://prices.example/index/release/2026-01-r1.html"' in page and "2026-02-r1" not in page

@@ -286,7 +286,7 @@ def test_a_form_of_an_ended_session_is_kept_until_it_is_sent_again(application: 
     shown = ada.get(place)
     assert "outlet,12,Harbour" in words_of(shown.text) and "Send it again, as Ben" in words_of(shown.text)
     assert SECOND not in shown.text
-    (again,) = [it for it in forms_of(shown.text) if it.action == "/records/judge"]
+    (again,) = [form for form in forms_of(shown.text) if form.action == "/records/judge"]
     assert "1 would be accepted" in words_of(ada.follow(ada.give(again)).text)
     assert ada.get(place).status_code == 404 and not application.desk.log.entries
 
@@ -295,7 +295,7 @@ def test_a_form_of_another_session_comes_back_at_once(application: Application, 
     form = ada.form("/year", "/year/make")
     refused = ada.give(form, token="of another one", year="2027")
     assert refused.status_code == 403 and application.desk.drafts.years() == []
-    (again,) = [it for it in forms_of(refused.text) if it.action == "/year/make"]
+    (again,) = [form for form in forms_of(refused.text) if form.action == "/year/make"]
     assert ("year", "2027") in again.fields and ada.give(again).status_code == 303
 
 

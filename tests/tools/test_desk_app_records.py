@@ -33,8 +33,8 @@ def chosen(person: Person, content: bytes, name: str = "rows.csv", **form: str) 
 
 
 def offer_of(page: str) -> str:
-    (found,) = re.findall('name="offer" value="([^"]+)"', page)
-    return str(found)
+    (offer,) = re.findall('name="offer" value="([^"]+)"', page)
+    return str(offer)
 
 
 def test_of_a_file_each_refusal_has_its_line(ada: Person) -> None:
@@ -59,7 +59,7 @@ def test_a_file_and_a_typed_text_are_refused_together_since_one_would_be_lost(
     assert answer.status_code == 400 and 'name="offer"' not in answer.text
     assert "You chose a file, but the field contains text too" in words_of(answer.text)
     kept = re.findall("<textarea[^>]*>([^<]*)</textarea>", answer.text)
-    assert [it.strip() for it in kept] == (["", "outlet,60,Typed"] if more else ["outlet,60,Typed", ""])
+    assert [element.strip() for element in kept] == (["", "outlet,60,Typed"] if more else ["outlet,60,Typed", ""])
 
 
 @pytest.mark.parametrize(

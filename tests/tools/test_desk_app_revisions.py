@@ -59,7 +59,7 @@ def reopens(person: Person, moment: int) -> Any:
     """A person reopens the month, with a window that has closed; the page that says so."""
     text = f"calendar,{MONTH},1000,2000,{moment}\n"
     judged = person.follow(person.fill("/records", "/records/judge", text=text))
-    (form,) = [it for it in forms_of(judged.text) if it.action == "/records/send"]
+    (form,) = [form for form in forms_of(judged.text) if form.action == "/records/send"]
     return person.follow(person.give(form))
 
 
@@ -91,7 +91,7 @@ def test_who_reopens_a_month_is_asked_why_and_the_website_says_it(
     )
     for path in ("/calendar", "/sample/calendar"):
         assert "Why is January 2026 revised" in ada.words(path)
-    (form,) = [it for it in forms_of(page.text) if it.action == PAGE]
+    (form,) = [form for form in forms_of(page.text) if form.action == PAGE]
     kept = ada.give(form, **{**TEXTS, "reason-en": f"  {WHY}\n "})
     assert (kept.status_code, kept.headers["Location"]) == (303, PAGE) and WHY in ada.words(PAGE)
     assert "Why is January 2026 revised" not in ada.words("/calendar") and reasons.read_text() == HEAD
@@ -125,7 +125,9 @@ def test_the_reason_comes_out_with_its_revision(
     assert publisher and WHY in reasons.read_text(encoding="utf-8")
     if time.time() < moment - 1:
         assert "up to" in written(publisher, ada) and not publisher.fault
-        assert not [it for it in (tmp_path / "public").rglob("*") if it.is_file() and WHY.encode() in it.read_bytes()]
+        assert not [
+            path for path in (tmp_path / "public").rglob("*") if path.is_file() and WHY.encode() in path.read_bytes()
+        ]
     time.sleep(max(0.0, moment + 1 - time.time()))
     assert "up to" in written(publisher, ada) and not publisher.fault
     release = (tmp_path / f"public/release/{MONTH}-r2.html").read_text(encoding="utf-8")
@@ -137,7 +139,10 @@ def test_a_revision_isn_t_prepared_without_its_reason(application: Application, 
     reopens(ada, moment)
     application.tried(ada, MONTH)
     trial = application.desk.trials.latest(202601)
-    assert trial and [it.action for it in forms_of(ada.get(FREEZE).text) if it.action.startswith("/month/")][-1] == PAGE
+    assert (
+        trial
+        and [form.action for form in forms_of(ada.get(FREEZE).text) if form.action.startswith("/month/")][-1] == PAGE
+    )
     refused = ada.post(f"{FREEZE}/prepare", trial=trial.sum, reason="")
     assert refused.status_code == 400 and "Give the reason for the revision." in words_of(refused.text)
     ben = application.person(BEN)

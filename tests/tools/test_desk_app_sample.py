@@ -35,7 +35,7 @@ def sent(person: Person, kind: str) -> str:
 
 def slots(application: Application) -> dict[tuple[int, int], Assignment]:
     with private_copy(application.file) as copy, read_copy(copy) as office:
-        return {(it.collector, it.slot): it for it in office.assignments()}
+        return {(assignment.collector, assignment.slot): assignment for assignment in office.assignments()}
 
 
 # ---- a text that is pasted
@@ -205,7 +205,7 @@ def test_a_sheet_has_the_key_and_the_log_says_who_printed_it(application: Applic
     application.desk.given = application.desk.given._replace(phones="https://prices.example")
     answer = ada.sent("/sample/collectors/sheet", collector="7", name="Lovelace <b>", language="en")
     groups = [key_of(7)[at : at + 4] for at in range(0, 32, 4)]
-    assert answer.status_code == 200 and all(f"<span>{it}</span>" in answer.text for it in groups)
+    assert answer.status_code == 200 and all(f"<span>{group}</span>" in answer.text for group in groups)
     assert "Lovelace &lt;b&gt;" in answer.text and "https://prices.example/collect/" in answer.text
     assert answer.headers["Cache-Control"] == "no-store" and "script" not in answer.headers["Content-Security-Policy"]
     assert "printed the sheet with the key of collector 7" in ada.words("/log")

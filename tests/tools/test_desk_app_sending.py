@@ -59,16 +59,16 @@ class Stand:
             return looked_up(self.cpi, copy, records, since)
 
     def kinds(self) -> list[str]:
-        return [it.what for it in self.log.entries]
+        return [entry.what for entry in self.log.entries]
 
 
 @pytest.fixture
 def stand(cpi: Cpi, small: Path, tmp_path: Path) -> Iterator[Stand]:
     port = free_port()
     with served(cpi, small, port):
-        it = Stand(cpi, small, tmp_path / "log", port)
-        yield it
-        it.log.close()
+        stand = Stand(cpi, small, tmp_path / "log", port)
+        yield stand
+        stand.log.close()
 
 
 def outlets(file: Path) -> dict[int, str]:
@@ -130,15 +130,15 @@ def test_an_office_that_is_killed_within_a_message(cpi: Cpi, small: Path, tmp_pa
     stand = Stand(cpi, small, tmp_path / "log", port)
     with served(cpi, small, port) as process:
         process.send_signal(19)  # (SIGSTOP)
-        found = list[list[Optional[Reply]]]()
-        thread = threading.Thread(target=lambda: found.append(stand.sender.send(ADA, DESK_KEY, [OUTLET])))
+        replies = list[list[Optional[Reply]]]()
+        thread = threading.Thread(target=lambda: replies.append(stand.sender.send(ADA, DESK_KEY, [OUTLET])))
         thread.start()
         while not stand.log.entries:
             pass
         process.kill()
         process.wait()
         thread.join()
-    if found and found[0] == [None]:
+    if replies and replies[0] == [None]:
         with pytest.raises(Fault):
             stand.sender.send(ADA, DESK_KEY, [OTHER])
     with served(cpi, small, port):
@@ -160,7 +160,7 @@ def test_an_office_that_carries_it_out_late(cpi: Cpi, small: Path, tmp_path: Pat
     with served(cpi, small, port) as process:
         process.send_signal(19)  # (SIGSTOP)
         assert sender.send(ADA, DESK_KEY, [OUTLET]) == [None]
-        assert [it.records for it in log.open_entries()] == [[OUTLET]]
+        assert [entry.records for entry in log.open_entries()] == [[OUTLET]]
         process.send_signal(18)  # (SIGCONT)
         patient = Sender(Office(f"http://127.0.0.1:{port}"), log, stand.look_up)
         assert [it.replies for it in patient.settle(ADA)] == [[{"stands": True}]]

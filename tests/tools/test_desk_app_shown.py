@@ -27,7 +27,7 @@ from .test_desk_app_month import MONTH, SIGNED, WHY, frozen_months
 from .test_desk_app_publish import OFFICE, frozen as published_at, with_site
 
 CEM = "Cem"
-FREEZE, LOOKS, NOTES, QUESTIONS = (f"/month/{MONTH}/{it}" for it in ("freeze", "looks", "field-notes", "questions"))
+FREEZE, LOOKS, NOTES, QUESTIONS = (f"/month/{MONTH}/{text}" for text in ("freeze", "looks", "field-notes", "questions"))
 YEAR, RICE, FLOUR = "/year/2027/", "01.1.1.1-01", "01.1.1.2-01"
 MAY = ["2026-05-01T08:00", "2026-05-24T18:00", "2026-06-10T09:30"]
 MAYS = f"calendar,2026-05,{','.join(MAY)}\n"
@@ -64,7 +64,7 @@ def ben(application: Application) -> Person:
 def sends(person: Person, text: str) -> None:
     """A person has records judged, and sends them."""
     judged = person.follow(person.fill("/records", "/records/judge", text=text))
-    (form,) = [it for it in forms_of(judged.text) if it.action == "/records/send"]
+    (form,) = [form for form in forms_of(judged.text) if form.action == "/records/send"]
     assert "done." in words_of(person.follow(person.give(form)).text)
 
 
@@ -138,9 +138,9 @@ def test_another_freeze_isn_t_confirmed(application: Application, ada: Person, b
     prepares(application, ada)
     late(ben.give(form, **SIGNED), "Ada prepared another freeze, ", SIGNED["because"])
     application.tried(ada, MONTH)
-    assert [it[0] for it in frozen_months(application)] == [202512, 202601]
+    assert [month[0] for month in frozen_months(application)] == [202512, 202601]
     assert ben.sent(form.action, **{**dict(ben.form(FREEZE, "/confirm").fields), **SIGNED}).status_code == 200
-    assert [it[0] for it in frozen_months(application)] == [202512, 202601, 202602]
+    assert [month[0] for month in frozen_months(application)] == [202512, 202601, 202602]
 
 
 def test_another_s_freeze_isn_t_dropped(application: Application, ada: Person, ben: Person) -> None:
@@ -196,14 +196,14 @@ def test_a_window_that_somebody_set_isn_t_taken_back(application: Application, a
     answer = ada.give(with_window(form, "2026-05", "2026-05-28T18:00"))
     late(answer, "Ben sent another window of May 2026, ", "2026-05-28T18:00", "2026-05-20T18:00")
     assert "Not accepted yet 1 " in ada.words("/sample/calendar")
-    again = [it for it in forms_of(answer.text) if it.action == "/calendar/2026"]
+    again = [form for form in forms_of(answer.text) if form.action == "/calendar/2026"]
     assert ("closes", "2026-05-28T18:00") in again[0].fields and ada.give(again[0]).status_code == 303
 
 
 def test_a_window_that_was_judged_before_another_isn_t_sent(application: Application, ada: Person, ben: Person) -> None:
     sends(ben, MAYS)
     judged = ada.follow(ada.fill("/records", "/records/judge", text=OTHER_MAY))
-    (form,) = [it for it in forms_of(judged.text) if it.action == "/records/send"]
+    (form,) = [form for form in forms_of(judged.text) if form.action == "/records/send"]
     rows = ada.fill("/sample/calendar", "/judge", 1, pasted=f"2026-05,{','.join(MAY).replace('24T', '21T')}")
     assert rows.status_code == 303
     waiting = ada.form("/sample/calendar", "/send")
@@ -323,7 +323,7 @@ def test_a_row_of_a_draft_that_somebody_changed_stays(application: Application, 
     drafted(application, ada)
     page = f"{YEAR}?sheet=series"
     put = ada.form(page, "/put")
-    (out,) = [it for it in forms_of(ada.get(page).text) if ("cell", "8") in it.fields]
+    (out,) = [form for form in forms_of(ada.get(page).text) if ("cell", "8") in form.fields]
     row = {"collector": "8", "slot": "2", "outlet": "10", "item": "RICE", "first": "2026-12", "last": "2027-12"}
     assert ben.fill(page, "/put", **row).status_code == 303
     late(ada.give(out), BY_BEN)
@@ -350,9 +350,9 @@ def test_a_plan_that_was_judged_before_another_isn_t_sent(application: Applicati
     sending = ada.form(YEAR, "/send")
     records = application.desk.drafts.find_checked(2027)
     assert records
-    (plan,) = [it for it in records.records if it[0] == "plan"]
+    (plan,) = [record for record in records.records if record[0] == "plan"]
     given = ben.follow(ben.fill("/records", "/records/judge", 1, year="2027", text=plan[2].replace("Rice,", "Rices,")))
-    (form,) = [it for it in forms_of(given.text) if it.action == "/records/send"]
+    (form,) = [form for form in forms_of(given.text) if form.action == "/records/send"]
     assert ben.give(form).status_code == 303
     late(ada.give(sending), "plan,2027", "changed after yours was checked. Ben sent it, ")
 
@@ -392,7 +392,7 @@ def test_a_question_that_somebody_asked_or_took_back_is_told(
     asking = ada.form(LOOKS, "/looks/ask")
     assert ben.fill(LOOKS, "/looks/ask", text="Is it still 1 kg?").status_code == 303
     late(ada.give(asking, text="Which brand?"), "Ben asked this in the meantime (", "Is it still 1 kg?", "Which brand?")
-    withdrawing, removing = (ada.form(QUESTIONS, it) for it in ("/withdraw", "/remove"))
+    withdrawing, removing = (ada.form(QUESTIONS, text) for text in ("/withdraw", "/remove"))
     assert ben.fill(QUESTIONS, "/withdraw").status_code == 303
     late(ada.give(withdrawing), BY_BEN)
     assert ben.fill(QUESTIONS, "/remove").status_code == 303
@@ -462,8 +462,8 @@ COVERED: dict[str, object] = {
 
 def views_of(application: Application) -> set[str]:
     """The views that take forms; what phones send to the notes of the field is no form of the desk."""
-    rules = [it for it in application.app.url_map.iter_rules() if "POST" in (it.methods or ())]
-    return {it.endpoint for it in rules if not it.rule.startswith("/notes/")}
+    rules = [rule for rule in application.app.url_map.iter_rules() if "POST" in (rule.methods or ())]
+    return {rule.endpoint for rule in rules if not rule.rule.startswith("/notes/")}
 
 
 def view_of(application: Application, form: PageForm) -> str:
@@ -483,8 +483,8 @@ PAGES = (
         "/calendar",
         "/calendar/2026",
     ),
-    *(f"/sample/{it}" for it in ("items", "outlets", "collectors", "assignments", "handovers", "calendar")),
-    *(f"{YEAR}?sheet={it}" for it in ("weights", "classification", "places", "series")),
+    *(f"/sample/{text}" for text in ("items", "outlets", "collectors", "assignments", "handovers", "calendar")),
+    *(f"{YEAR}?sheet={text}" for text in ("weights", "classification", "places", "series")),
     *("/year", "/publish", "/records", "/log"),
 )
 
@@ -500,14 +500,14 @@ def shown_forms(application: Application, ada: Person) -> dict[str, list[PageFor
     assert ada.fill(LOOKS, "/looks/ask", text="Is it still 1 kg?").status_code == 303
     for kind, text in (("outlets", "10;Other\n12;Harbour"), ("calendar", f"2026-05;{';'.join(MAY)}")):
         assert ada.fill(f"/sample/{kind}", "/judge", 1, pasted=text).status_code == 303
-    found = dict[str, list[PageForm]]()
+    forms = dict[str, list[PageForm]]()
     judged = ada.follow(ada.fill("/records", "/records/judge", text="outlet,14,Quay"))
     (number, *_) = re.findall("mend=([0-9]+)", ada.get("/sample/outlets").text)
     mending = ada.get(f"/sample/outlets?mend={number}")
     pages = [making, judged.text, mending.text, *(ada.get(path, follow_redirects=True).text for path in PAGES)]
-    for form in (it for page in pages for it in forms_of(page) if it.method == "post"):
-        found.setdefault(view_of(application, form), []).append(form)
-    return found
+    for form in (form for page in pages for form in forms_of(page) if form.method == "post"):
+        forms.setdefault(view_of(application, form), []).append(form)
+    return forms
 
 
 HIDDEN_HERE = {"sign_in.enter", "log.settle", "held.drop", "freeze.prepare", "publish.plan", "reason.keep"}
@@ -533,7 +533,7 @@ def refused_in_words(ada: Person, form: PageForm) -> None:
     """Each field of a form is left out, and has odd texts: what isn't carried out is refused on a page that doesn't load
     itself."""
     for at, name in enumerate(dict.fromkeys(name for name, _ in form.fields if name != "token")):
-        left_out = ada.give(form._replace(fields=[it for it in form.fields if it[0] != name]))
+        left_out = ada.give(form._replace(fields=[field for field in form.fields if field[0] != name]))
         assert name not in NEEDED or left_out.status_code in (400, 409), (form.action, name, left_out.status_code)
         odd = ("", "9" * 5_000, ODD[at % len(ODD)])
         for answer in (left_out, *(ada.give(form, **{name: text}) for text in odd)):

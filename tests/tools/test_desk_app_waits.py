@@ -105,12 +105,14 @@ def doubled(person: Person, form: PageForm, **fields: str) -> list[Any]:
 
 def test_records_that_are_sent_twice_are_sent_once(application: Application, ada: Person) -> None:
     judged = ada.follow(ada.fill("/records", "/records/judge", text="outlet,14,Quay"))
-    form = next(it for it in forms_of(judged.text) if it.action == "/records/send")
+    form = next(form for form in forms_of(judged.text) if form.action == "/records/send")
     application.desk.once = Once()
     first, second = doubled(ada, form)
     assert (first.status_code, second.status_code) == (303, 303)
     assert first.headers["Location"] == second.headers["Location"]
-    assert [it.records for it in application.desk.log.entries if it.what == "sent"] == [[["outlet", "14", "Quay"]]]
+    assert [entry.records for entry in application.desk.log.entries if entry.what == "sent"] == [
+        [["outlet", "14", "Quay"]]
+    ]
 
 
 def test_another_form_of_the_page_or_another_text_is_no_second_one(application: Application, ada: Person) -> None:

@@ -34,7 +34,7 @@ def worked(cpi: Cpi, folder: Path, is_january_frozen: bool) -> Path:
     )
     rows = [*csv.reader(io.StringIO(made_by.stdout))]
     if not is_january_frozen:
-        rows = [it for it in rows[: rows.index(next(filter(is_of_january, rows)))] if it[2:4] != ["plan", "2027"]]
+        rows = [row for row in rows[: rows.index(next(filter(is_of_january, rows)))] if row[2:4] != ["plan", "2027"]]
     file = folder / "worked.db"
     cpi.replay(map(line_of, rows), file)
     return file
@@ -57,20 +57,20 @@ def test_weights_are_moved_as_the_freeze_moves_them(cpi: Cpi, tmp_path: Path) ->
     file = worked(cpi, tmp_path, True)
     with private_copy(file) as copy, read_copy(copy) as office:
         numbers: dict[str, Fraction | None] = {RICE: Fraction(550_000), FLOUR: Fraction(450_000)}
-        found = move_weights(office, numbers, 202606, 2027)
-        (january,) = [it for it in office.releases() if it.month == 202701]
-        in_use = {code: it.weight for code, it in office.levels(january).items() if "-" in code}
+        weights = move_weights(office, numbers, 202606, 2027)
+        (january,) = [release for release in office.releases() if release.month == 202701]
+        in_use = {code: level.weight for code, level in office.levels(january).items() if "-" in code}
         assert months_to_move(office, 2027)[0] == 202611 and 202512 not in months_to_move(office, 2027)
         assert (
             move_weights(office, numbers, 202512, 2027) is None and move_weights(office, numbers, 202612, 2027) is None
         )
         lacking = move_weights(office, {**numbers, "01.1.1.3-01": Fraction(1)}, 202606, 2027)
         was = before(office, 2027)
-    assert found and not found.lacking and (found.then, found.now) == (202606, 202612)
+    assert weights and not weights.lacking and (weights.then, weights.now) == (202606, 202612)
     assert in_use == {RICE: 573_621, FLOUR: 466_655}
     # (573,621 of 1,040,276 are 55.141 percent)
-    assert [percent_text(found.shares[it]) for it in (RICE, FLOUR)] == ["55.141", "44.859"]
-    assert {code: round(number * found.prices[code]) for code, number in numbers.items() if number} == in_use
+    assert [percent_text(weights.shares[it]) for it in (RICE, FLOUR)] == ["55.141", "44.859"]
+    assert {code: round(number * weights.prices[code]) for code, number in numbers.items() if number} == in_use
     assert lacking and lacking.lacking == ["01.1.1.3-01"] and not lacking.shares
     # (the weights of a year before are those in use, which prices moved)
     assert was.shares == {RICE: Fraction(573_621, 1_040_276), FLOUR: Fraction(466_655, 1_040_276)}
@@ -78,7 +78,7 @@ def test_weights_are_moved_as_the_freeze_moves_them(cpi: Cpi, tmp_path: Path) ->
 
 def test_a_share_in_the_unit_of_a_draft() -> None:
     share = Fraction(1, 3)
-    assert [in_unit(share, it) for it in ("ppm", "permille", "percent", "money")] == [
+    assert [in_unit(share, text) for text in ("ppm", "permille", "percent", "money")] == [
         "333333",
         "333.333",
         "33.3333",

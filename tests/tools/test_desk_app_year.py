@@ -53,7 +53,7 @@ def sent(ada: Person) -> str:
 
 def weights(office: StoredOffice) -> dict[str, int]:
     """Those of the plan of 2027."""
-    return next((it.aggregates() for it in office.plans() if it.year == 2027), {})
+    return next((plan.aggregates() for plan in office.plans() if plan.year == 2027), {})
 
 
 def test_a_draft_is_what_next_year_makes(application: Application, ada: Person) -> None:
@@ -112,7 +112,7 @@ def test_a_draft_is_pasted_judged_and_sent_once(application: Application, ada: P
     ada.fill(PAGE, "/2027/reference", reference="2026-01")
     ada.fill(PAGE, "/2027/put", 1, pasted=f"weight;code\n55,5;{RICE}\n44,5;{FLOUR}\n")
     assert ada.post(f"{PAGE[:-1]}/out", sheet="series", cell="8").status_code == 400
-    out = [it for it in forms_of(ada.get(f"{PAGE}?sheet=series").text) if ("cell", "8") in it.fields]
+    out = [form for form in forms_of(ada.get(f"{PAGE}?sheet=series").text) if ("cell", "8") in form.fields]
     assert ada.give(out[0]).status_code == 303
     ada.fill(
         f"{PAGE}?sheet=series",
@@ -132,7 +132,10 @@ def test_a_draft_is_pasted_judged_and_sent_once(application: Application, ada: P
     assert ada.post(f"{PAGE[:-1]}/send", seen=seen).status_code == 409
     with private_copy(application.file) as copy, read_copy(copy) as office:
         assert weights(office) == {RICE: 555_000, FLOUR: 445_000} and office.references() == {2027: 202601}
-        slots = {(it.collector, it.slot): (it.outlet, it.item) for it in office.assignments()}
+        slots = {
+            (assignment.collector, assignment.slot): (assignment.outlet, assignment.item)
+            for assignment in office.assignments()
+        }
     assert slots[8, 2] == (11, "FLOUR") and slots[7, 4] == (10, "FLOUR") and len(slots) == 6
     application.again()
     ada = application.person(ADA)

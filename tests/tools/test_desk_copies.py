@@ -252,7 +252,7 @@ def test_after_a_kill_the_copy_has_each_line_that_is_older_than_its_round(
         copied_desk(dest, tmp_path / f"{turn}")
         there, here = (DeskLog(folder / "desk.log") for folder in (tmp_path / f"{turn}", desk.path))
         assert there.entries == here.entries[: len(there.entries)]
-        assert [it for it in here.entries[len(there.entries) :] if it.at < index.copied] == []
+        assert [entry for entry in here.entries[len(there.entries) :] if entry.at < index.copied] == []
         there.close()
         here.close()
 

@@ -137,7 +137,7 @@ def test_by_a_port_without_a_front_nobody_does(cpi: Cpi, tmp_path: Path) -> None
             posted(socket.create_connection(("127.0.0.1", own)), f"127.0.0.1:{own}", "", f"192.0.2.{number}")
             for number in range(6)
         ]
-        assert ["Too many wrong keys" in it for it in answers] == [False] * 5 + [True]
+        assert ["Too many wrong keys" in answer for answer in answers] == [False] * 5 + [True]
         assert lines_of(process) == ["127.0.0.1"] * 5
 
 
@@ -174,7 +174,7 @@ def test_by_a_socket_only_the_name_of_the_front_is_taken() -> None:
 
 
 def test_an_address_that_is_none_is_shown_as_it_is() -> None:
-    assert [show_address(it) for it in ("192.0.2.7", "::1", "x\ny", "y" * 99)] == [
+    assert [show_address(text) for text in ("192.0.2.7", "::1", "x\ny", "y" * 99)] == [
         "192.0.2.7",
         "::1",
         r"'x\ny'",

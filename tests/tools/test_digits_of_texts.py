@@ -67,5 +67,5 @@ def test_no_hundred_of_a_page_has_other_digits(site: Path, page: str) -> None:
 
 def test_scripts_have_them_too(site: Path) -> None:
     words = json.loads((site / "assets/words.js").read_text(encoding="utf-8").partition("=")[2].rstrip(";\n"))
-    texts = [it for it in words["texts"].values() if isinstance(it, str)]
-    assert any("= \u0661\u0660\u0660" in it for it in texts) and not any("= 100" in it for it in texts)
+    texts = [text for text in words["texts"].values() if isinstance(text, str)]
+    assert any("= \u0661\u0660\u0660" in text for text in texts) and not any("= 100" in text for text in texts)

@@ -76,5 +76,5 @@ def test_only_root_is_told_of_others_rights(cpi: Cpi, office: Path, open_folder:
 
 def test_a_user_without_a_name_is_told_by_its_number() -> None:
     """As of a folder that came from another machine."""
-    found = user_of(4_000_000_000)
-    assert (found.name, found.number) == ("user 4000000000", 4_000_000_000)
+    user = user_of(4_000_000_000)
+    assert (user.name, user.number) == ("user 4000000000", 4_000_000_000)

@@ -92,7 +92,7 @@ def test_the_only_series_of_an_item_is_compared_with_its_aggregate(cpi: Cpi, tmp
 def test_one_value_in_series_of_many_items(cpi: Cpi, tmp_path: Path) -> None:
     """Also if it comes after the first price, and `--confirm-history` confirms none of it."""
     of = [("11", "RICE"), ("10", "BREAD"), ("11", "FLOUR"), ("10", "MEAL"), ("11", "SPELT")]
-    prices = with_prices(*((it, [PRICES[it][0], "777777.77"]) for it in of))
+    prices = with_prices(*((texts, [PRICES[texts][0], "777777.77"]) for texts in of))
     status, found = checked(cpi, tmp_path, prices, "--confirm-history")
     assert status == 3 and found == [
         (row, "2026-01", "it occurs in series of 5 items") for row in ("3", "5", "7", "8", "9")
@@ -101,7 +101,7 @@ def test_one_value_in_series_of_many_items(cpi: Cpi, tmp_path: Path) -> None:
 
 def test_a_usual_price_of_many_items_is_none(cpi: Cpi, tmp_path: Path) -> None:
     of = [("11", "RICE"), ("10", "BREAD"), ("11", "FLOUR"), ("10", "MEAL"), ("11", "SPELT")]
-    assert checked(cpi, tmp_path, with_prices(*((it, ["1.99", "1.99"]) for it in of))) == (0, [])
+    assert checked(cpi, tmp_path, with_prices(*((texts, ["1.99", "1.99"]) for texts in of))) == (0, [])
     assert checked(cpi, tmp_path, PRICES) == (0, [])
 
 
@@ -114,12 +114,12 @@ def test_nothing_is_written_until_a_person_says_what_it_is(cpi: Cpi, tmp_path: P
     assert '--missing "9999.99=stock"' in ran.err and '--price "9999.99"' in ran.err
     assert "2 prices in doubt, and nothing is taken in" in ran.err
     assert taken(cpi, tmp_path, prices, *words, "--missing", "9999.99=closed").status == 0
-    found = [it for it in quotes(tmp_path / "out") if "missing" in it]
-    assert found == ["quote,2,2025-12,missing,closed", "quote,2,2026-01,missing,closed"]
+    matching_quotes = [quote for quote in quotes(tmp_path / "out") if "missing" in quote]
+    assert matching_quotes == ["quote,2,2025-12,missing,closed", "quote,2,2026-01,missing,closed"]
     words[1] = str(tmp_path / "priced")
     assert taken(cpi, tmp_path, prices, *words, "--price", "9999.99").status == 0
-    found = [it for it in quotes(tmp_path / "priced") if "999999" in it]
-    assert found == ["quote,2,2025-12,price,999999", "quote,2,2026-01,price,999999"]
+    matching_quotes = [quote for quote in quotes(tmp_path / "priced") if "999999" in quote]
+    assert matching_quotes == ["quote,2,2025-12,price,999999", "quote,2,2026-01,price,999999"]
 
 
 def quotes(folder: Path) -> list[str]:
@@ -144,9 +144,9 @@ def test_a_code_that_no_price_has_is_named(cpi: Cpi, tmp_path: Path) -> None:
     ran = taken(cpi, tmp_path, commas, "--check", "--decimal", ",", *codes)
     assert ran.status == 0
     assert re.findall('prices.csv, row 1: no price is "(.*)", which --missing names', ran.err) == ["9999.99", "N.A."]
-    found = rows_of(tmp_path / "sheets/check/problems.csv")
-    assert [it["kind"] for it in found] == ["warning", "warning"]
-    assert found[0]["do"] == 'write it as it is in a cell of the sheet, whose numbers have the decimal sign ","'
+    rows = rows_of(tmp_path / "sheets/check/problems.csv")
+    assert [row["kind"] for row in rows] == ["warning", "warning"]
+    assert rows[0]["do"] == 'write it as it is in a cell of the sheet, whose numbers have the decimal sign ","'
 
 
 @pytest.mark.parametrize(

@@ -44,11 +44,11 @@ def read_manifest(pack: Path) -> Any:
 
 def tables_of(room: Path) -> list[Published]:
     """The tables of the pack."""
-    found = []
+    tables = []
     for row in read_manifest(room / "public")["tables"]:
         listed = Listed(row["month"], row["revision"], seconds(row["published"]))
-        found.append(Published(listed, (room / "public/data/tables" / listed.file_name).read_bytes()))
-    return found
+        tables.append(Published(listed, (room / "public/data/tables" / listed.file_name).read_bytes()))
+    return tables
 
 
 def seconds(text: str) -> int:
@@ -136,8 +136,8 @@ def test_the_next_release_comes_over_it_and_the_one_after_has_changes(room: Path
     published_by(room, tables_of(room) + [month])
     manifest = read_manifest(room / "public")
     assert manifest["tables"][: len(before["tables"])] != manifest["tables"]
-    assert {(it["month"], it["revision"]) for it in manifest["tables"]} > {
-        (it["month"], it["revision"]) for it in before["tables"]
+    assert {(table["month"], table["revision"]) for table in manifest["tables"]} > {
+        (table["month"], table["revision"]) for table in before["tables"]
     }
     first, second = manifest["changes"]
     assert (first["name"], first["replaced"]) == ("2026-03-r2", None)

@@ -51,7 +51,7 @@ def rendered(form: str, month: str) -> Iterator[str]:
     others = {name: "X" for name in names if name.removeprefix("of_") not in OF_MONTHS}
     places = Places({**others, **{name: month for name in OF_MONTHS}})
     text = PLACE.sub(lambda it: str(places[it[1] or it[2]]), form.replace("%%", "%"))
-    yield from (text[max(0, it.start() - 12) : it.start()] for it in re.finditer(re.escape(month), text))
+    yield from (text[max(0, match.start() - 12) : match.start()] for match in re.finditer(re.escape(month), text))
 
 
 def test_no_french_text_has_de_before_a_vowel_of_a_month() -> None:
@@ -165,7 +165,7 @@ WITHIN = (
 def is_within(message: Message) -> bool:
     """Whether a text is a part of others."""
     places = [place for place, _ in message.locations]
-    return message.id == "{month}, revision {number}" or all(any(it in place for it in WITHIN) for place in places)
+    return message.id == "{month}, revision {number}" or all(any(text in place for text in WITHIN) for place in places)
 
 
 @pytest.mark.parametrize("code", ["fr", "es"])

@@ -43,9 +43,9 @@ OF_WEIGHTS = "17-hicp-weights"
 def quotes(file: Path) -> Quotes:
     with stored_office(file) as stored:
         return {
-            (month, *slot): (it.mark, it.value)
+            (month, *slot): (quote.mark, quote.value)
             for month in stored.months_of_quotes()
-            for slot, it in stored.quotes(month).items()
+            for slot, quote in stored.quotes(month).items()
         }
 
 

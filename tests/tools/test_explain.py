@@ -98,15 +98,20 @@ def look_at_node(path: Path, month: str, code: str, revision: int, row: tuple[in
     """
     ran = run(None, "explain", path, month, code, "--revision", revision)
     assert (ran.status, ran.err) == (0, "")
-    found = [*lines_of(ran.out)]
-    valued = [line for line in found if line[1]]
+    lines = [*lines_of(ran.out)]
+    valued = [line for line in lines if line[1]]
     for name, expression, value in valued:
         assert second(ast.parse(expression, mode="eval")) == Fraction(value), (code, name)
-    last = {name: int(value) for name, _, value in found if re.fullmatch(r"-?\d+", value)}
+    last = {name: int(value) for name, _, value in lines if re.fullmatch(r"-?\d+", value)}
     figures = ("index", "chained level", "monthly change", "annual change")
     assert tuple(last.get(name) for name in figures) == row[:4]
-    known = {Fraction(value) for _, _, value in found} | CONSTANTS
-    used = {int(it) for name, text, _ in valued if name in (*figures, "moved to") for it in re.findall(r"\d+", text)}
+    known = {Fraction(value) for _, _, value in lines} | CONSTANTS
+    used = {
+        int(element)
+        for name, text, _ in valued
+        if name in (*figures, "moved to")
+        for element in re.findall(r"\d+", text)
+    }
     assert used <= known, (code, used - known)
     return len(valued)
 
@@ -147,11 +152,11 @@ def test_the_greatest_contributions_come_first(whole: Whole) -> None:
         top = Fraction(10**8, now["00"][4] * then["00"][0])
         wanted = {code: top * now[code][4] * (now[code][0] - then[code][0]) for code in now if len(code) == 11}
         told = run(None, "explain", whole[0], month, "00").out
-        found = re.findall(r"contribution of (\S+) = .* = (-?\d+)    # ", told)
+        matches = re.findall(r"contribution of (\S+) = .* = (-?\d+)    # ", told)
         greatest = sorted(wanted, key=lambda code: -abs(wanted[code]))[:5]
-        assert [code for code, _ in found] == greatest
-        assert all(abs(Fraction(value) - wanted[code]) <= Fraction(1, 2) for code, value in found)
-        falls += sum(value.startswith("-") for _, value in found)
+        assert [code for code, _ in matches] == greatest
+        assert all(abs(Fraction(value) - wanted[code]) <= Fraction(1, 2) for code, value in matches)
+        falls += sum(value.startswith("-") for _, value in matches)
     assert falls > 0
 
 
@@ -356,7 +361,7 @@ def test_a_page_takes_the_place_of_a_page_alone(small: Path, tmp_path: Path) -> 
         told = run(None, "explain", small, "2026-01", what, "--html", to)
         assert (told.status, told.out, told.err.count("\n")) == (1, "", 1) and because in told.err
     assert small.read_bytes() == before and not (tmp_path / "empty").read_text()
-    assert [it.name for it in (tmp_path / "site").iterdir()] == ["00.html"]
+    assert [path.name for path in (tmp_path / "site").iterdir()] == ["00.html"]
 
 
 def test_the_life_of_a_series_has_a_page(whole: Whole, tmp_path: Path) -> None:

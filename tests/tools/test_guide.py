@@ -19,18 +19,18 @@ from .loads import served
 def block_behind(guide: str, words: str) -> str:
     """The first indented block of a guide behind some words."""
     text = (ROOT / guide).read_text(encoding="utf-8").partition(words)[2]
-    found = re.search(r"\n\n((?:    .*\n)+)", text)
-    assert found, f"{guide} has no commands behind {words}"
-    return re.sub("^    ", "", found[1], flags=re.M)
+    match = re.search(r"\n\n((?:    .*\n)+)", text)
+    assert match, f"{guide} has no commands behind {words}"
+    return re.sub("^    ", "", match[1], flags=re.M)
 
 
 def fenced_behind(guide: str, words: str) -> str:
     """The first block of commands with a fence behind some words."""
-    found = re.search(
+    match = re.search(
         r"^```sh\n(.*?)^```$", (ROOT / guide).read_text(encoding="utf-8").partition(words)[2], re.M | re.S
     )
-    assert found, f"{guide} has no commands behind {words}"
-    return found[1]
+    assert match, f"{guide} has no commands behind {words}"
+    return match[1]
 
 
 def ran(commands: str, folder: Path, cpi: Cpi) -> subprocess.CompletedProcess[str]:

@@ -40,7 +40,7 @@ def test_a_guide_says_what_it_follows_and_how_to_send_corrections(name: str) -> 
     assert f"[{guide[:-3]}](../{guide})" in head and "1.1" in head
 
 
-@pytest.mark.parametrize("name", [it for it in NAMES if "/ar/" in it])
+@pytest.mark.parametrize("name", [name for name in NAMES if "/ar/" in name])
 def test_a_paragraph_in_arabic_begins_in_arabic(name: str) -> None:
     """A reader's program takes the direction of a paragraph from its first letter."""
     text = guides.COMMANDS.sub("", (ROOT / name).read_text(encoding="utf-8"))

@@ -37,8 +37,8 @@ class Told(NamedTuple):
 def table() -> list[Told]:
     """The rows of habits.txt, a row a line."""
     rows = [line.split(" | ") for line in TABLE.read_text(encoding="utf-8").splitlines()]
-    found = [Told(*(cell.strip() for cell in row)) for row in rows]
-    return [it._replace(line=re.sub(r"^`+ ?|(?<! ) ?`+$", "", it.line)) for it in found]
+    tables = [Told(*(cell.strip() for cell in row)) for row in rows]
+    return [table._replace(line=re.sub(r"^`+ ?|(?<! ) ?`+$", "", table.line)) for table in tables]
 
 
 def guide() -> dict[str, list[str]]:
@@ -73,7 +73,7 @@ def checked(cpi: Cpi, folder: Path, *words: str) -> tuple[Ran, set[tuple[str, st
     problems = folder / "check/problems.csv"
     rows = rows_of(problems) if problems.exists() else []
     return ran, {
-        (it["kind"], f'{place(Origin(it["file"], int(it["row"]), it["column"]))}: {it["because"]}') for it in rows
+        (row["kind"], f'{place(Origin(row["file"], int(row["row"]), row["column"]))}: {row["because"]}') for row in rows
     }
 
 
@@ -83,9 +83,9 @@ def quotes(cpi: Cpi, folder: Path, *words: str) -> Quotes:
     assert run(cpi, "take-in", folder, "--write", records, *MINOR, *words).status == 0
     with stored_office(replayed(cpi, records, folder.parent / "office.db")) as stored:
         return {
-            (month, *slot): (it.mark, it.value)
+            (month, *slot): (quote.mark, quote.value)
             for month in stored.months_of_quotes()
-            for slot, it in stored.quotes(month).items()
+            for slot, quote in stored.quotes(month).items()
         }
 
 

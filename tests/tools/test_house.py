@@ -97,7 +97,7 @@ impl Month {
 
 def crate_of(name: str, texts: Mapping[str, str]) -> Crate:
     homes = {"Note": "notes", "Month": "codes"}
-    return Crate(name, dict(texts), [it for path, text in texts.items() for it in list_items(path, text, homes)])
+    return Crate(name, dict(texts), [item for path, text in texts.items() for item in list_items(path, text, homes)])
 
 
 HIGH = crate_of("high", {"src/notes.rt": NOTES, "src/cause.rt": CAUSES})
@@ -111,7 +111,7 @@ def kinds() -> Kinds:
 
 def head_of(name: str) -> Head:
     heads = [head for item in HIGH.items if (head := read_head(HIGH, item))]
-    return next(it for it in heads if it.item.name == name)
+    return next(head for head in heads if head.item.name == name)
 
 
 # ---- heads
@@ -120,7 +120,7 @@ def head_of(name: str) -> Head:
 def test_a_head_has_what_the_function_takes_and_gives() -> None:
     head = head_of("notes::items")
     assert head.generics == ("S: Sight",) and head.receiver == "" and not head.is_of_trait
-    assert [it for _, it in head.parameters] == ["Global", "&mut S", "Month", "Caller", "&[u8]"]
+    assert [parameter for _, parameter in head.parameters] == ["Global", "&mut S", "Month", "Caller", "&[u8]"]
     assert (head.gives, head.call()) == ("Result<Reply, Cause>", "items::<S>(alloc, sight, month, caller, text)")
 
 
@@ -148,7 +148,7 @@ def test_types_have_homes_questions_and_flags(kinds: Kinds) -> None:
 
 
 def test_a_function_that_answers_gives_up_by_90_and_by_a_cause_at_hand() -> None:
-    assert [it.text for it in list_ways(head_of("notes::items"))] == [
+    assert [way.text for way in list_ways(head_of("notes::items"))] == [
         "Ok(Reply::Refused(Refusal::Unavailable))",
         "Err(Cause::from(AllocError))",
         "Err(Cause::from(StoreFault))",
@@ -156,22 +156,22 @@ def test_a_function_that_answers_gives_up_by_90_and_by_a_cause_at_hand() -> None
 
 
 def test_a_flag_falls_before_a_fault_and_before_the_right_answer(kinds: Kinds) -> None:
-    assert [it.text for it in list_flags(head_of("notes::Note::read_some"), kinds)] == [
+    assert [flag.text for flag in list_flags(head_of("notes::Note::read_some"), kinds)] == [
         "self.has_failed = true; Err(AllocError)",
         "self.has_failed = true; self.read_some(reader, buf)",
         "self.has_failed = false; Err(AllocError)",
         "self.has_failed = false; self.read_some(reader, buf)",
     ]
-    texts = [it.text for it in list_flags(head_of("notes::NoteRead::read"), kinds)]
-    assert "self.has_failed = false; Ok(buf.len())" in texts and any("Ok(0)" in it for it in texts)
+    texts = [flag.text for flag in list_flags(head_of("notes::NoteRead::read"), kinds)]
+    assert "self.has_failed = false; Ok(buf.len())" in texts and any("Ok(0)" in text for text in texts)
 
 
 def test_a_right_answer_is_put_under_conditions_on_the_input(kinds: Kinds) -> None:
     head = head_of("notes::items")
-    found = ["month.index() > 7", "matches!(caller, Caller::Public)"]
-    assert list_conditions(head, kinds) == found
+    texts = ["month.index() > 7", "matches!(caller, Caller::Public)"]
+    assert list_conditions(head, kinds) == texts
     first = next(iter(put_under_conditions(head, kinds, list_ways(head))))
-    assert first.text == f"if {found[0]} {{ Ok(Reply::Refused(Refusal::Unavailable)) }} else {{ {head.call()} }}"
+    assert first.text == f"if {texts[0]} {{ Ok(Reply::Refused(Refusal::Unavailable)) }} else {{ {head.call()} }}"
 
 
 # ---- the trial
@@ -247,13 +247,13 @@ def test_nothing_is_tried_under_a_condition_if_the_own_answer_is_not_proved(hous
 
 def test_a_body_that_is_not_read_is_left_out_and_the_others_tried_again(house: House) -> None:
     assert "not-source=1" in house.tried("", "notes::items")[-1]
-    assert [it.split()[0] for it in house.calls()] == ["4", "3"]
+    assert [call.split()[0] for call in house.calls()] == ["4", "3"]
 
 
 def test_a_method_of_a_trait_is_tried_in_its_place_without_its_proof(house: House) -> None:
     lines = house.tried(r"Ok\(buf\.len\(\)\)", "NoteRead::read")
     assert lines[0].startswith("house src/notes.rt:25 notes::NoteRead::read: { Ok(buf.len()) }")
-    assert {it.split()[0] for it in house.calls()} == {"1"} and not any("True" in it for it in house.calls())
+    assert {call.split()[0] for call in house.calls()} == {"1"} and not any("True" in call for call in house.calls())
     assert (house.top / "crates/high/proofs/notes/NoteRead/read/Answers.antt").exists()
 
 

@@ -77,9 +77,9 @@ def kept_at(cpi: Cpi, place: Place, moment: int) -> keeping.Kept:
 
 
 def last_of(place: Place) -> LastDrill:
-    found = last_drill_of(place.dest)
-    assert found
-    return found
+    drill = last_drill_of(place.dest)
+    assert drill
+    return drill
 
 
 def promoted(cpi: Cpi, place: Place, name: str, *words: object) -> tuple[Ran, dict[str, bytes]]:

@@ -105,14 +105,14 @@ class Second:
 
     def files(self) -> dict[str, bytes]:
         """All that is on it but what lies in the folder for changes: names and bytes, and where a link leads."""
-        found = dict[str, bytes]()
+        files = dict[str, bytes]()
         for path in self.home.rglob("*"):
             name = str(path.relative_to(self.home))
             if path.is_symlink():
-                found[name] = b"-> " + os.readlink(path).encode()
+                files[name] = b"-> " + os.readlink(path).encode()
             elif path.is_file() and path.parent != self.dest / CAME:
-                found[name] = path.read_bytes()
-        return found
+                files[name] = path.read_bytes()
+        return files
 
 
 @pytest.fixture

@@ -94,8 +94,8 @@ def decoded(picture: str) -> str:
     zbar.ImageScanner().scan(image)
     (symbol,) = image.symbols
     assert str(symbol.type) == "QRCODE"
-    found: str = symbol.data
-    return found
+    data: str = symbol.data
+    return data
 
 
 def named(path: Path, *rows: tuple[object, str]) -> Path:
@@ -124,11 +124,11 @@ def test_a_sheet_for_each_collector(office: Path) -> None:
     ran, out = printed(office)
     nameless = "3 collectors without a name: the sheet has the number only\n"
     assert ran == (0, told(out, "3 sheets") + nameless, "")
-    found = sheets_in(out)
-    assert [it.heading for it in found] == ["Collector 1", "Collector 2", "Collector 9"]
-    assert [it.key for it in found] == [" ".join([key[:4]] * 8 + [CHECKS[it]]) for it, key in KEYS.items()]
-    assert [decoded(it.picture) for it in found] == [f"{URL}/collect/#key={key}" for key in KEYS.values()]
-    assert sums(office) == before and {it.name for it in office.parent.iterdir()} == {"office.db", "sheets.html"}
+    sheets = sheets_in(out)
+    assert [sheet.heading for sheet in sheets] == ["Collector 1", "Collector 2", "Collector 9"]
+    assert [sheet.key for sheet in sheets] == [" ".join([key[:4]] * 8 + [CHECKS[it]]) for it, key in KEYS.items()]
+    assert [decoded(sheet.picture) for sheet in sheets] == [f"{URL}/collect/#key={key}" for key in KEYS.values()]
+    assert sums(office) == before and {path.name for path in office.parent.iterdir()} == {"office.db", "sheets.html"}
     text = out.read_text(encoding="utf-8")
     assert text.count(f">{URL}/collect/</p>") == 3
     assert stat.S_IMODE(out.stat().st_mode) == 0o600
@@ -141,8 +141,8 @@ def test_names_stay_texts_and_come_back_from_the_code(office: Path) -> None:
     names = named(office.parent / "names.csv", (2, TURNED), (9, longest), (1, SCRIPT))
     ran, out = printed(office, "--names", names)
     assert ran == (0, told(out, "3 sheets"), "")
-    found = sheets_in(out)
-    for (number, key), name, sheet in zip(KEYS.items(), (SCRIPT, TURNED, longest), found):
+    sheets = sheets_in(out)
+    for (number, key), name, sheet in zip(KEYS.items(), (SCRIPT, TURNED, longest), sheets):
         closing = "\u2069" if name == TURNED else ""  # (its own isolate is closed)
         assert sheet.heading == f"Collector {number}: {name}{closing}"
         link = decoded(sheet.picture)
@@ -151,7 +151,7 @@ def test_names_stay_texts_and_come_back_from_the_code(office: Path) -> None:
         assert parse_qsl(urlsplit(link).fragment, strict_parsing=True) == [("key", key), ("name", name)]
     text = out.read_text(encoding="utf-8")
     assert text.count("<bdi>") == 3 and "<script" not in text
-    assert decoded(found[1].picture).endswith(
+    assert decoded(sheets[1].picture).endswith(
         "&name=%E2%80%AEanna%E2%81%A6%20%26%20%27Zo%C3%AB%27%20%E2%80%A8%23key%3D0%26name%3Dx"
     )
 
@@ -164,16 +164,16 @@ def test_a_name_is_left_out_where_there_is_none(office: Path) -> None:
     nameless = "2 collectors without a name: the sheet has the number only\n"
     unread = f"cpi-tools keys: {names}: columns that aren't read: telephone\n"
     assert ran == (0, told(out, "3 sheets") + nameless, unread)
-    found = sheets_in(out)
-    assert [it.heading for it in found] == ["Collector 1", "Collector 2", "Collector 9: Ada Lovelace"]
-    assert [decoded(it.picture).partition("&")[2] for it in found] == ["", "", "name=Ada%20Lovelace"]
+    sheets = sheets_in(out)
+    assert [sheet.heading for sheet in sheets] == ["Collector 1", "Collector 2", "Collector 9: Ada Lovelace"]
+    assert [decoded(sheet.picture).partition("&")[2] for sheet in sheets] == ["", "", "name=Ada%20Lovelace"]
 
 
 def test_only_the_collectors_that_are_chosen(office: Path) -> None:
     names = named(office.parent / "names.csv", (2, "Beno"), (1, "Anna"))
     ran, out = printed(office, "--names", names, "--collector", 9, "--collector", 2, "--collector", 9)
     assert ran.out == told(out, "2 sheets") + "1 collector without a name: the sheet has the number only\n"
-    assert [it.heading for it in sheets_in(out)] == ["Collector 2: Beno", "Collector 9"]
+    assert [sheet.heading for sheet in sheets_in(out)] == ["Collector 2: Beno", "Collector 9"]
     text = out.read_text(encoding="utf-8")
     assert "Anna" not in text and "aaaa" not in text
     ran, _ = printed(office, "--collector", 2, "--collector", 3)
@@ -203,7 +203,7 @@ def test_sheets_in_another_language(office: Path, language: str, direction: str,
         flags=re.S,
     )
     texts = re.findall(r">([^<>]+)<", shown) + re.findall(r'aria-label="([^"]*)"', shown)
-    assert not [it for it in texts if re.search(left, it)]
+    assert not [element for element in texts if re.search(left, element)]
 
 
 def test_a_language_without_a_catalogue_is_refused(office: Path, capsys: pytest.CaptureFixture[str]) -> None:
@@ -364,7 +364,7 @@ def test_the_address_of_the_front(
     words = ("keys", office, "--url", url, "--out", out)
     if page is not None:
         assert run(None, *words).status == 0
-        assert [decoded(it.picture) for it in sheets_in(out)][0] == f"{page}#key={KEY}"
+        assert [decoded(sheet.picture) for sheet in sheets_in(out)][0] == f"{page}#key={KEY}"
         assert f">{page}</p>" in out.read_text(encoding="utf-8")
         return
     with pytest.raises(SystemExit) as ended:

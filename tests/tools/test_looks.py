@@ -34,7 +34,7 @@ MANY = [look(1 + at % 3, at) for at in range(130)]
 
 
 def keys(looks: list[Look]) -> list[str]:
-    return [key_of(it) for it in looks]
+    return [key_of(look) for look in looks]
 
 
 # ---- which are shown
@@ -46,7 +46,9 @@ def test_a_page_begins_after_a_price_so_none_is_skipped_if_some_were_seen_meanwh
     while True:
         part = part_of(MANY, seen, chosen)
         shown += keys(part.looks)
-        seen |= {it.slot for it in part.looks[::2]}  # (every other one is marked, so the page before is shorter now)
+        seen |= {
+            look.slot for look in part.looks[::2]
+        }  # (every other one is marked, so the page before is shorter now)
         if part.further is None:
             break
         chosen = chosen_of(part.further)
@@ -117,7 +119,7 @@ def test_each_page_counts_the_same_prices(application: Application) -> None:
     assert trial and int(card) == int(part) == len(rows) == len(trial.looks)
     assert "a replacement of another quality" in table
     assert f"{card} of {card}" in words_of(ada.get(f"/month/{MONTH}/freeze").text)
-    slots = [it.split(",")[0] for it in ada.get(f"/month/{MONTH}/table/outliers.csv").text.splitlines()[1:]]
+    slots = [line.split(",")[0] for line in ada.get(f"/month/{MONTH}/table/outliers.csv").text.splitlines()[1:]]
     assert "7/2" in slots and len(slots) == len(rows)
 
 
@@ -150,7 +152,7 @@ def test_a_page_with_rows_doesn_t_load_itself_while_a_trial_runs(
 
 def checked(person: Person, what: str, *prices: str) -> Any:
     """Marks the prices of checked rows."""
-    (form,) = [it for it in [person.form(LOOKS, "/many")]]
+    (form,) = [form for form in [person.form(LOOKS, "/many")]]
     data = {"token": dict(form.fields)["token"], "what": what, "checked": list(prices)}
     return person.client.post(form.action, data=data, base_url=f"http://{LISTEN}")
 
@@ -180,7 +182,7 @@ def test_a_mark_leads_to_the_next_row_with_the_same_filters(application: Applica
     assert ada.give(form).headers["Location"] == f"{LOOKS}?sort=slot#look-7-2"
     noted = ada.form(f"{LOOKS}?show=all", "/looks", 1)
     assert ada.give(noted, text="a word").headers["Location"] == f"{LOOKS}?show=all#look-7-1"
-    only = [it for it in [ada.form(LOOKS, "/looks")] if ("slot", "2") in it.fields]
+    only = [form for form in [ada.form(LOOKS, "/looks")] if ("slot", "2") in form.fields]
     assert ada.give(only[0], only="7-2").headers["Location"].startswith(f"{LOOKS}?only=7-2#look-7-2")
     words = ada.words(f"{LOOKS}?only=7-2")
     assert "0 to look at; you have seen 2" in words and "Slot 7/2" in words and "Slot 7/1" not in words

@@ -70,9 +70,9 @@ def written(cpi: Cpi, tmp_path: Path, folder: Path) -> Quotes:
     assert ran.status == 0, ran.err
     with stored_office(replayed(cpi, tmp_path / "records", tmp_path / "office.db")) as stored:
         return {
-            (month, *slot): (it.mark, it.value)
+            (month, *slot): (quote.mark, quote.value)
             for month in stored.months_of_quotes()
-            for slot, it in stored.quotes(month).items()
+            for slot, quote in stored.quotes(month).items()
         }
 
 
@@ -80,7 +80,9 @@ def refused(cpi: Cpi, folder: Path) -> tuple[Ran, list[tuple[str, int, str, str]
     """A check, and its problems: file, row, column and reason."""
     ran = run(cpi, "take-in", folder, "--map", folder / "map.toml", "--check")
     rows = rows_of(folder / "check" / "problems.csv") if (folder / "check").exists() else []
-    return ran, [(it["file"], int(it["row"]), it["column"], it["because"]) for it in rows if it["kind"] == "problem"]
+    return ran, [
+        (row["file"], int(row["row"]), row["column"], row["because"]) for row in rows if row["kind"] == "problem"
+    ]
 
 
 # ---- joins
@@ -138,7 +140,7 @@ BAD_JOINS: list[tuple[str, dict[str, Rows], tuple[str, int, str, str]]] = [
 ]
 
 
-@pytest.mark.parametrize(("files", "problem"), [it[1:] for it in BAD_JOINS], ids=[it[0] for it in BAD_JOINS])
+@pytest.mark.parametrize(("files", "problem"), [join[1:] for join in BAD_JOINS], ids=[join[0] for join in BAD_JOINS])
 def test_a_join_that_finds_not_one_row_is_a_problem_at_the_cell(
     cpi: Cpi, tmp_path: Path, files: dict[str, Rows], problem: tuple[str, int, str, str]
 ) -> None:
@@ -217,7 +219,7 @@ def test_a_quantity_that_cant_be_read_is_a_problem_at_its_cell(
 ) -> None:
     ran, problems = refused(cpi, folder_of(tmp_path, observed(row, FLOUR), ONLY_MEASURED))
     assert ran.status == 1
-    assert [(it[0], it[1], it[2]) for it in problems] == [("observed.csv", 2, problem[0])]
+    assert [(problem[0], problem[1], problem[2]) for problem in problems] == [("observed.csv", 2, problem[0])]
     assert problem[1] in problems[0][3]
 
 

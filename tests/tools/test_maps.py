@@ -50,9 +50,9 @@ def quotes(cpi: Cpi, records: Path, file: Path) -> Quotes:
     """What an office has stored that is made of the records."""
     with stored_office(replayed(cpi, records, file)) as stored:
         return {
-            (month, *slot): (it.mark, it.value)
+            (month, *slot): (quote.mark, quote.value)
             for month in stored.months_of_quotes()
-            for slot, it in stored.quotes(month).items()
+            for slot, quote in stored.quotes(month).items()
         }
 
 
@@ -82,7 +82,11 @@ def test_a_map_without_a_line_is_a_problem_at_the_cell(cpi: Cpi, tmp_path: Path,
     folder, _ = made(tmp_path, form)
     ran = without(cpi, folder, form, line)
     assert ran.status in (1, 3), ran.err
-    cells = [(it["file"], int(it["row"]), it["column"]) for it in problems(folder) if it["kind"] != "warning"]
+    cells = [
+        (problem["file"], int(problem["row"]), problem["column"])
+        for problem in problems(folder)
+        if problem["kind"] != "warning"
+    ]
     assert form.told[line] in cells, (ran.err, problems(folder))
 
 
@@ -95,7 +99,7 @@ def test_a_column_without_a_name_is_read_for_nothing(cpi: Cpi, tmp_path: Path, t
     added = [[*row[:2], text if number == 2 else "", *row[2:]] for number, row in enumerate(rows)]
     (folder / "survey.csv").write_text("".join(f"{','.join(row)}\n" for row in added), encoding="utf-8")
     ran = run(cpi, "take-in", folder, "--map", path, "--write", tmp_path / "records")
-    assert (ran.status, [(it["file"], it["row"]) for it in problems(folder)]) == (
+    assert (ran.status, [(problem["file"], problem["row"]) for problem in problems(folder)]) == (
         (1, [("survey.csv", "3")]) if text else (0, [])
     )
     if not text:
@@ -109,7 +113,7 @@ def odd(folder: Path, form: Form, seed: str) -> None:
     """Writes odd texts into some cells of the files of a form."""
     chance = random.Random(seed)
     known = {"outlet-codes.csv", *(f"{name}.csv" for name in sheets())}
-    files = [it for it in folder.iterdir() if it.suffix in (".csv", ".dat", ".tab") and it.name not in known]
+    files = [path for path in folder.iterdir() if path.suffix in (".csv", ".dat", ".tab") and path.name not in known]
     for path in sorted(files):
         encoding = "windows-1252" if "windows-1252" in form.map else "utf-8"
         lines = path.read_text(encoding=encoding).splitlines()
@@ -353,7 +357,9 @@ def test_weights_without_a_line_are_a_problem_at_the_cell(
 ) -> None:
     folder, path = hicp(tmp_path, (line, ""))
     assert run(cpi, "take-in", folder, "--map", path, "--check").status == 1
-    assert cell in [(it["file"], int(it["row"]), it["column"]) for it in problems(folder)], problems(folder)
+    assert cell in [
+        (problem["file"], int(problem["row"]), problem["column"]) for problem in problems(folder)
+    ], problems(folder)
 
 
 # ---- maps that are refused
@@ -636,7 +642,7 @@ def test_no_name_is_two_months() -> None:
         for number, several in enumerate(names, 1):
             for name in several.split(","):
                 numbers.setdefault(fold(name), set()).add(number)
-    assert [name for name, found in numbers.items() if len(found) > 1] == []
+    assert [name for name, number in numbers.items() if len(number) > 1] == []
 
 
 @pytest.mark.parametrize(

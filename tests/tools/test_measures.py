@@ -79,10 +79,10 @@ def tea_again() -> Published:
 
 def over_another_december() -> list[Published]:
     """Up to January 2027, which was computed over a December of all items at 106 that isn't published: 106 * 1.04."""
-    *found, last = two_years()[:14]
+    *december, last = two_years()[:14]
     table = last.table.replace(b"104.000000,109.200000,4.0,9.5", b"104.000000,110.240000,4.0,10.5")
     assert table != last.table
-    return [*found, last._replace(table=table)]
+    return [*december, last._replace(table=table)]
 
 
 @pytest.fixture(scope="module")
@@ -181,7 +181,7 @@ def test_contributions_add_up_at_every_node_and_month(published: list[Published]
         for node, row in series.latest[month].rows.items():
             parts = contributions.below(month, node)
             bases = series.month_base(month, node), series.year_base(month, node)
-            for base, own in zip(bases, ([it.to_month for it in parts], [it.to_year for it in parts])):
+            for base, own in zip(bases, ([part.to_month for part in parts], [part.to_year for part in parts])):
                 terms = [Fraction(*it) for it in own if it is not None]
                 if base and terms:
                     off = abs(sum(terms) - Fraction(100 * (row.chained - base), base))

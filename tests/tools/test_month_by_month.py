@@ -56,7 +56,7 @@ class Run(NamedTuple):
 
 def planned(published: list[Published]) -> tuple[Planned, ...]:
     """All releases are announced from the first day on, also two that never come."""
-    listed = [it.listed for it in published if it.table]
+    listed = [publication.listed for publication in published if publication.table]
     never = [(HIDDEN_REVISION, 2, 9_000_000_001), (LAST, 1, 9_000_000_000)]
     return tuple(Planned(*it) for it in [*listed, *never])
 
@@ -65,15 +65,21 @@ def planned(published: list[Published]) -> tuple[Planned, ...]:
 def runs(published: list[Published], tmp_path_factory: pytest.TempPathFactory) -> list[Run]:
     """One after the other in the same folder, as on the days of the releases."""
     out, config = tmp_path_factory.mktemp("months") / "public", CONFIG._replace(planned=planned(published))
-    found, before = list[Run](), set[str]()
-    for moment in sorted({it.listed.moment for it in published if it.table and it.listed.month >= FIRST}):
-        tables = [it for it in published if it.listed.moment <= moment]
+    runs, before = list[Run](), set[str]()
+    for moment in sorted(
+        {
+            publication.listed.moment
+            for publication in published
+            if publication.table and publication.listed.month >= FIRST
+        }
+    ):
+        tables = [publication for publication in published if publication.listed.moment <= moment]
         publish(tables, config, out, None, lambda _: None)
-        now = {it.name[:-4] for it in tables if it.table}
-        files = {it.relative_to(out).as_posix(): it.read_bytes() for it in out.rglob("*") if it.is_file()}
-        found.append(Run(files, sorted(now - before)))
+        now = {table.name[:-4] for table in tables if table.table}
+        files = {path.relative_to(out).as_posix(): path.read_bytes() for path in out.rglob("*") if path.is_file()}
+        runs.append(Run(files, sorted(now - before)))
         before = now
-    return found
+    return runs
 
 
 def pairs(runs: list[Run]) -> Iterator[tuple[Run, Run]]:
@@ -82,8 +88,8 @@ def pairs(runs: list[Run]) -> Iterator[tuple[Run, Run]]:
 
 
 def test_it_is_two_years_with_a_revision(runs: list[Run]) -> None:
-    assert len(runs) == 26 and sum(f"{REVISED}-r2" in it.new for it in runs) == 1
-    assert all(len(it.new) == 1 for it in runs[1:])
+    assert len(runs) == 26 and sum(f"{REVISED}-r2" in run.new for run in runs) == 1
+    assert all(len(run.new) == 1 for run in runs[1:])
 
 
 # ---- that it stays
@@ -118,7 +124,7 @@ def test_a_release_stays_as_it_is(runs: list[Run]) -> None:
         changed = {name for name, data in kept.items() if now.files[name] != data}
         assert changed == ({f"release/{REVISED}-r1.html"} if f"{REVISED}-r2" in now.new else set())
         for name in changed:
-            old, new = (it.files[name].decode().splitlines() for it in (before, now))
+            old, new = (run.files[name].decode().splitlines() for run in (before, now))
             (line,) = (it for it in new if it not in old)
             assert [it for it in new if it != line] == old and f'<a href="{REVISED}-r2.html">Revision 2 of' in line
     each = {name: len([it for it in runs[-1].of(name) if "-r1" in it]) for name in folders}
@@ -142,25 +148,28 @@ def test_entries_and_events_stay(runs: list[Run]) -> None:
     """A reader of the feed, or of the calendar, isn't told of anything again."""
     for before, now in pairs(runs):
         old, new = entries(before), entries(now)
-        assert all(new[it] == old[it] for it in old.keys() & new.keys())
+        assert all(new[key] == old[key] for key in old.keys() & new.keys())
         assert {f"{ADDRESS}release/{it}.html" for it in now.new} == new.keys() - old.keys()
         out = [f"{it}.XX.NSO@cpi" for it in now.new]
-        then, events = (events_of(it) for it in (before, now))
+        then, events = (events_of(run) for run in (before, now))
         assert then.keys() - events.keys() <= {min(then)}
-        assert all(events[it] == then[it] for it in then.keys() & events.keys() if it not in out)
-        assert all(events[it][:2] == then[it][:2] and events[it][2] for it in out)
+        assert all(events[key] == then[key] for key in then.keys() & events.keys() if key not in out)
+        assert all(events[text][:2] == then[text][:2] and events[text][2] for text in out)
 
 
 def entries(run: Run) -> dict[str, str]:
     """The entries of the feed by their ids."""
-    found = re.findall(r"<entry><id>(.*?)</id>.*?</entry>", run.files["feed.xml"].decode(), flags=re.S)
-    return dict(zip(found, re.findall(r"<entry>.*?</entry>", run.files["feed.xml"].decode(), flags=re.S)))
+    matches = re.findall(r"<entry><id>(.*?)</id>.*?</entry>", run.files["feed.xml"].decode(), flags=re.S)
+    return dict(zip(matches, re.findall(r"<entry>.*?</entry>", run.files["feed.xml"].decode(), flags=re.S)))
 
 
 def events_of(run: Run) -> dict[str, tuple[object, str, str]]:
     """The events of the calendar by their ids: when, what, and what is said of them once they are over."""
-    found = icalendar.Calendar.from_ical(run.files["calendar.ics"]).walk("VEVENT")
-    return {str(it["UID"]): (it["DTSTART"].dt, str(it["SUMMARY"]), str(it.get("DESCRIPTION", ""))) for it in found}
+    events = icalendar.Calendar.from_ical(run.files["calendar.ics"]).walk("VEVENT")
+    return {
+        str(event["UID"]): (event["DTSTART"].dt, str(event["SUMMARY"]), str(event.get("DESCRIPTION", "")))
+        for event in events
+    }
 
 
 def test_an_event_leads_to_a_page_that_is_there(runs: list[Run]) -> None:
@@ -168,10 +177,10 @@ def test_an_event_leads_to_a_page_that_is_there(runs: list[Run]) -> None:
     listed until it is out, and as long as it is one of the last."""
     for at, run in enumerate(runs):
         led = set[str]()
-        for it in icalendar.Calendar.from_ical(run.files["calendar.ics"]).walk("VEVENT"):
-            page, _, name = str(it["URL"]).removeprefix(ADDRESS).partition("#")
+        for node in icalendar.Calendar.from_ical(run.files["calendar.ics"]).walk("VEVENT"):
+            page, _, name = str(node["URL"]).removeprefix(ADDRESS).partition("#")
             led.add(page)
-            assert all(page in later.files for later in runs[at:]) and name in str(it["UID"])
+            assert all(page in later.files for later in runs[at:]) and name in str(node["UID"])
             if name:
                 listed = [later for later in runs[at : at + 5] if name in later.new or later is run]
                 assert all(f'id="{name}"' in later.files[page].decode() for later in listed)
@@ -187,14 +196,18 @@ def test_each_manifest_follows_the_one_before(runs: list[Run]) -> None:
 def test_what_is_written_month_by_month_is_what_is_written_at_once(
     runs: list[Run], published: list[Published], tmp_path: Path
 ) -> None:
-    tables = [it for it in published if it.name[:-4] in {name for run in runs for name in run.new} or not it.table]
+    tables = [
+        publication
+        for publication in published
+        if publication.name[:-4] in {name for run in runs for name in run.new} or not publication.table
+    ]
     site, last, before = tmp_path / "public", runs[-1].files, tmp_path / "before"
     for name in ("manifest.json", "data/artefacts.json", "data/revision-reasons.csv"):
         (before / name).parent.mkdir(parents=True, exist_ok=True)
         (before / name).write_bytes(last[name])
     config = CONFIG._replace(planned=planned(published))
     publish(tables, config, site, before / "manifest.json", lambda _: None)
-    at_once = {it.relative_to(site).as_posix(): it.read_bytes() for it in site.rglob("*") if it.is_file()}
+    at_once = {path.relative_to(site).as_posix(): path.read_bytes() for path in site.rglob("*") if path.is_file()}
     # (what changed with a release is known only from the pack before)
     apart = {name for name in at_once.keys() | last.keys() if at_once.get(name) != last.get(name)}
     described = {"manifest.json", "SHA256SUMS", "data.html"}
@@ -204,10 +217,14 @@ def test_what_is_written_month_by_month_is_what_is_written_at_once(
 def test_a_reason_that_is_added_changes_one_page(runs: list[Run], published: list[Published], tmp_path: Path) -> None:
     """The page of the revision, by a paragraph, and its entry in the feed."""
     site, last = tmp_path / "public", runs[-1].files
-    tables = [it for it in published if it.name[:-4] in {name for run in runs for name in run.new} or not it.table]
+    tables = [
+        publication
+        for publication in published
+        if publication.name[:-4] in {name for run in runs for name in run.new} or not publication.table
+    ]
     reasons = (*CONFIG.reasons, Reason(REVISED, 2, "Wheat too.", ADDED))
     publish(tables, CONFIG._replace(planned=planned(published), reasons=reasons), site, None, lambda _: None)
-    now = Run({it.relative_to(site).as_posix(): it.read_bytes() for it in site.rglob("*") if it.is_file()}, [])
+    now = Run({path.relative_to(site).as_posix(): path.read_bytes() for path in site.rglob("*") if path.is_file()}, [])
     assert {it for it, data in now.of("release", "picture", "embed").items() if last[it] != data} == {REVISION}
     old, new = entries(runs[-1]), entries(now)
     assert {it for it in old if old[it] != new[it]} == {f"{ADDRESS}{REVISION}"}
@@ -243,4 +260,4 @@ def test_all_is_valid_at_the_end(runs: list[Run]) -> None:
             read_html(data, name)
         elif name.endswith(".svg"):
             ElementTree.fromstring(data)
-    assert sum(it.endswith(".svg") for it in files) > 100
+    assert sum(file.endswith(".svg") for file in files) > 100

@@ -57,13 +57,13 @@ def written(out: Path, *planned: Planned, tables: int = 13) -> Path:
 def event(out: Path) -> icalendar.Event:
     """The event of the release."""
     events = icalendar.Calendar.from_ical((out / "calendar.ics").read_bytes()).walk("VEVENT")
-    return next(it for it in events if it["UID"].startswith(MONTH))
+    return next(node for node in events if node["UID"].startswith(MONTH))
 
 
 def updates(out: Path) -> list[str]:
     """When the feed changed, and then each of its entries."""
     feed = ElementTree.parse(out / "feed.xml").getroot()
-    return [it.text or "" for it in feed.iter() if it.tag.endswith("updated")]
+    return [element.text or "" for element in feed.iter() if element.tag.endswith("updated")]
 
 
 def words(out: Path, page: str = "calendar.html") -> str:
@@ -117,7 +117,7 @@ def test_a_feed_from_right_to_left_keeps_its_isolates(tmp_path: Path) -> None:
         publish(TABLES, config._replace(planned=(planned,)), out, None, lambda _: None)
     texts = "".join(ElementTree.parse(out / "feed.xml").getroot().itertext())
     assert "\u206608:30 UTC\u2069" in texts and "\u2068A holiday (1)\u2069" in texts
-    assert sum(ISOLATES.get(it, 0) for it in texts) == 0
+    assert sum(ISOLATES.get(text, 0) for text in texts) == 0
 
 
 def test_a_table_that_came_later_than_announced_is_said(tmp_path: Path) -> None:

@@ -36,26 +36,26 @@ def two_aggregates() -> Series:
     flour is 100 in all months but December, when it is 88: 99 in the mean."""
     levels = {RICE: [100] * 6 + [110] * 5 + [120], FLOUR: [100] * 11 + [88]}
     levels[RICE][11] = 110
-    found = [Published(Listed("2025-12", 1, 0), b"")]
+    publications = [Published(Listed("2025-12", 1, 0), b"")]
     for month in range(1, 13):
         rows = [("00", 100), *((code, own[month - 1]) for code, own in levels.items())]
         text = "".join(f"{code},1000000,{level}.000000,{level}.000000,0.0,,0,Title\n" for code, level in rows)
         text = text.replace(",0.0,,", ",0.0,0.0,") if month == 12 else text
-        found.append(Published(Listed(f"2026-{month:02}", 1, month), text.encode()))
-    return Series(found)
+        publications.append(Published(Listed(f"2026-{month:02}", 1, month), text.encode()))
+    return Series(publications)
 
 
 def test_by_hand(tmp_path: Path) -> None:
     """Rice is worth 630 * 110 / 105 = 660 and flour 396 * 88 / 99 = 352, together 1,012: 652,173.9 and 347,826.1."""
     spent = read_spent(Path(sheet(tmp_path / "s.csv", f"code,weight\n{RICE},630\n{FLOUR},396\n")), "2026")
-    found = move_weights(two_aggregates(), spent, "2026-12")
-    assert [(it.then, it.now, it.worth, it.parts) for it in found] == [
+    weights = move_weights(two_aggregates(), spent, "2026-12")
+    assert [(weight.then, weight.now, weight.worth, weight.parts) for weight in weights] == [
         (105, 110, 660, 652_174),
         (99, 88, 352, 347_826),
     ]
     # by the prices of June rice is worth 693: the month isn't the year
     june = read_spent(Path(sheet(tmp_path / "j.csv", f"code,weight,of\n{RICE},630,2026-06\n{FLOUR},396,\n")), "2026")
-    assert [it.worth for it in move_weights(two_aggregates(), june, "2026-12")] == [693, 352]
+    assert [weight.worth for weight in move_weights(two_aggregates(), june, "2026-12")] == [693, 352]
 
 
 def test_from_printed_tables(
@@ -124,8 +124,8 @@ def test_a_plan_takes_the_rows(cpi: Cpi, public_office: Office, tmp_path: Path) 
     sent += [record(90_500, "desk", "freeze", "2026-01"), record(90_900, "public", "table", "2026-01", "csv")]
     *replies, table = cpi.replay(sent)
     assert not [reply for reply in replies if "refused" in reply] and len([*registered()]) < until
-    found = {row[0]: int(row[1]) for row in csv.reader(io.StringIO(table["table"]))}
-    assert {code: found[code] for code in weights} == weights and found["00"] == 1_000_000
+    ints = {row[0]: int(row[1]) for row in csv.reader(io.StringIO(table["table"]))}
+    assert {code: ints[code] for code in weights} == weights and ints["00"] == 1_000_000
 
 
 def test_shares_are_near_whatever_is_given(tmp_path: Path) -> None:
@@ -133,10 +133,13 @@ def test_shares_are_near_whatever_is_given(tmp_path: Path) -> None:
     for _ in range(20):
         rice, flour = drawn.randint(1, 10**9), drawn.randint(1, 10**9)
         spent = read_spent(Path(sheet(tmp_path / "s.csv", f"code,weight\n{RICE},{rice}\n{FLOUR},{flour}\n")), "2026")
-        found = move_weights(two_aggregates(), spent, "2026-12")
+        weights = move_weights(two_aggregates(), spent, "2026-12")
         worth = [Fraction(rice * 110, 105), Fraction(flour * 88, 99)]
-        assert sum(it.parts for it in found) == 10**6
-        assert all(abs(it.parts - own * 10**6 / sum(worth)) < 1 or it.parts == 1 for it, own in zip(found, worth))
+        assert sum(weight.parts for weight in weights) == 10**6
+        assert all(
+            abs(weight.parts - own * 10**6 / sum(worth)) < 1 or weight.parts == 1
+            for weight, own in zip(weights, worth)
+        )
 
 
 @pytest.mark.parametrize(

@@ -62,8 +62,8 @@ def test_the_rows_of_a_file_are_those_that_count_finds(year_old: Path, made: Pat
     """Of an office that frozen months made, and of one that `cpi` lived through."""
     for path in (year_old, made):
         counts = counted(path)
-        found = rows_of(path)
-        assert (found.largest, found.together) == (max(counts), sum(counts)) and found.monthly
+        rows = rows_of(path)
+        assert (rows.largest, rows.together) == (max(counts), sum(counts)) and rows.monthly
     assert rows_of(year_old).monthly == COLLECTORS * aged.SLOTS
 
 

@@ -117,7 +117,7 @@ def test_the_lists(cpi: Cpi, december: Path, tmp_path: Path) -> None:
     of_seven = [("7", "2", rice), ("7", "3", flour), ("7", "4", tea), ("7", "5", rice)]
     assert slots(tmp_path / "next/leaving.csv") == [*of_seven, ("9", "2", tea), ("8", "5", salt)]
     december_too, another = "price it in December in the slot of the draft too", "look for another in its place"
-    assert [[row[it] for it in ("last", "because", "do")] for row in rows_of(tmp_path / "next/leaving.csv")] == [
+    assert [[row[text] for text in ("last", "because", "do")] for row in rows_of(tmp_path / "next/leaving.csv")] == [
         ["2026-12", "its last month is 2026-12", december_too],
         ["2026-12", "its last month is 2026-12", another],
         ["2026-06", "its last month is 2026-06", another],
@@ -141,7 +141,7 @@ def test_aggregates_with_few_series(cpi: Cpi, december: Path, tmp_path: Path) ->
     assert run(cpi, "next-year", december, 2027, tmp_path / "next").status == 0
     rice, _, salt, tea = ITEMS.values()
     few = [
-        [row[it] for it in ("code", "title", "series", "outlets", "drafted", "do")]
+        [row[text] for text in ("code", "title", "series", "outlets", "drafted", "do")]
         for row in rows_of(tmp_path / "next/few-series.csv")
     ]
     price, assign = "price the draft's in December", "assign more, and price them in December"

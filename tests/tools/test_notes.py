@@ -46,12 +46,12 @@ def letters_on(page: Path) -> dict[str, str]:
 
 def rows_of(published: list[Published], code: str) -> dict[tuple[str, int], list[str]]:
     """The printed rows of an item by month and revision."""
-    found = {}
-    for it in published:
-        for row in csv.reader(it.table.decode().splitlines()):
+    rows = {}
+    for publication in published:
+        for row in csv.reader(publication.table.decode().splitlines()):
             if row[0] == code:
-                found[it.listed.month, it.listed.revision] = row
-    return found
+                rows[publication.listed.month, publication.listed.revision] = row
+    return rows
 
 
 @pytest.mark.parametrize("code", ["00", "01", "01.1.1.1-01", "01.1.6.2-01", "07", "08"])
@@ -59,15 +59,15 @@ def test_each_month_has_its_letters(site: Path, published: list[Published], code
     """By the printed tables: imputed, another row than at first, back after a year, and the last two months."""
     rows = rows_of(published, code)
     months = sorted({month for month, _ in rows})
-    every = sorted({it.listed.month for it in published})
+    every = sorted({publication.listed.month for publication in published})
     wanted = {}
     for month in months:
         latest = rows[month, max(revision for name, revision in rows if name == month)]
         is_back = every[every.index(month) - 1] not in months and month != months[0]
         said = ["i" * (latest[6] == "1"), "r" * (latest[1:6] != rows[month, 1][1:6]), "b" * is_back]
         wanted[month] = "".join([*said, "p" * (month in every[-2:])])
-    found = letters_on(site / f"node/{code}.html")
-    assert [*found.values()] == [wanted[month] for month in reversed(months)]
+    letters = letters_on(site / f"node/{code}.html")
+    assert [*letters.values()] == [wanted[month] for month in reversed(months)]
     assert {"01": "r", "07": "", "01.1.6.2-01": "b", "00": "r"}.get(code, "") in "".join(wanted.values())
 
 
@@ -93,7 +93,7 @@ def test_a_picture_that_is_taken_away_is_provisional_too(site: Path) -> None:
 
 
 def test_a_revised_month_says_what_was_published_first(published: list[Published], tmp_path: Path) -> None:
-    until = [it for it in published if it.listed.month <= REVISED]
+    until = [publication for publication in published if publication.listed.month <= REVISED]
     rows = rows_of(until, "01")
     first, latest = (Fraction(rows[REVISED, revision][3]) for revision in (1, 2))
     assert f"{float(first):.1f}" != f"{float(latest):.1f}"
@@ -139,7 +139,9 @@ FORMULA = re.compile(r'<p class="formula">(.*?)</p>')
 
 
 def formulas(site: Path) -> list[str]:
-    return [html.unescape(it) for it in FORMULA.findall((site / "how-to-read.html").read_text(encoding="utf-8"))]
+    return [
+        html.unescape(element) for element in FORMULA.findall((site / "how-to-read.html").read_text(encoding="utf-8"))
+    ]
 
 
 def rows_by_month(site: Path, name: str) -> dict[tuple[str, str], dict[str, str]]:
@@ -166,7 +168,7 @@ def computed_again(formula: str) -> tuple[Fraction, str]:
 def test_the_example_is_right(published: list[Published], tmp_path: Path, last: str) -> None:
     """Both changes and a contribution, computed again from the numbers that the page shows, which are those of the data
     files; the first month has no year before, and a January begins at 100."""
-    site = site_of([it for it in published if it.listed.month <= last], tmp_path / "public")
+    site = site_of([publication for publication in published if publication.listed.month <= last], tmp_path / "public")
     *changes, part = formulas(site)
     rows = rows_by_month(site, "cpi.csv")
     whole = rows[last, "00"]
@@ -191,7 +193,7 @@ def test_the_example_is_right(published: list[Published], tmp_path: Path, last: 
 
 def test_the_example_follows_the_rule_for_changes(published: list[Published], tmp_path: Path) -> None:
     """With changes from the printed index it has one decimal, and the office's own reference period."""
-    until = [it for it in published if it.listed.month <= "2027-03"]
+    until = [publication for publication in published if publication.listed.month <= "2027-03"]
     site = site_of(until, tmp_path / "public", CONFIG._replace(rates="published", reference="2025"))
     annual = formulas(site)[0]
     printed = rows_by_month(site, "printed.csv")

@@ -150,7 +150,7 @@ def test_where_they_are_off_there_is_no_trace(cpi: Cpi, tmp_path: Path) -> None:
         assert anna.send(1, 5, text="Look").status_code == 404 and anna.get(MONTH).status_code == 404
         assert "field" not in ada.get(f"/month/{MONTH}/").text
         assert ada.get(f"/month/{MONTH}/field-notes").status_code == 404
-        assert not [it for it in (tmp_path / "room").iterdir() if "field" in it.name]
+        assert not [path for path in (tmp_path / "room").iterdir() if "field" in path.name]
 
 
 def test_a_note_is_kept_once_however_often_it_is_sent(application: Application, anna: Phone) -> None:
@@ -170,16 +170,16 @@ def test_nobody_reads_the_note_of_another_collector(application: Application, an
     """What Beno is answered is the same, to the byte, before Anna sent a note and afterwards."""
     others = [Phone(application, key) for key in (BENO, None, DESK_KEY, "e" * 32)]
     paths = (MONTH, f"{MONTH}/photo/1", f"{MONTH}/photo/2", "2026-01", "2026-01/photo/1")
-    before = [[(it.get(path).status_code, it.get(path).data) for path in paths] for it in others]
+    before = [[(phone.get(path).status_code, phone.get(path).data) for path in paths] for phone in others]
     assert anna.send(1, 5, picture(), text="Behind the till").json == {"note": 1}
-    assert [[(it.get(path).status_code, it.get(path).data) for path in paths] for it in others] == before
-    assert [it[0][0] for it in before] == [200, 401, 403, 401] and before[0][0][1] == b'{"notes":[]}\n'
+    assert [[(phone.get(path).status_code, phone.get(path).data) for path in paths] for phone in others] == before
+    assert [paths[0][0] for paths in before] == [200, 401, 403, 401] and before[0][0][1] == b'{"notes":[]}\n'
     assert anna.get(f"{MONTH}/photo/1").data.startswith(b"\xff\xd8")
-    assert [it[6:] for it in anna.get(MONTH).json["notes"]] == [["", "Behind the till", True]]
+    assert [note[6:] for note in anna.get(MONTH).json["notes"]] == [["", "Behind the till", True]]
     beno = others[0]
     assert beno.send(1, 3, text="Behind the till").json == {"note": 2}
-    assert [it[0] for it in beno.get(MONTH).json["notes"]] == [2]
-    assert [it[0] for it in anna.get(MONTH).json["notes"]] == [1]
+    assert [note[0] for note in beno.get(MONTH).json["notes"]] == [2]
+    assert [note[0] for note in anna.get(MONTH).json["notes"]] == [1]
 
 
 def test_a_session_of_the_desk_opens_nothing_there_and_a_collector_s_key_no_page(
@@ -224,7 +224,7 @@ def test_keys_are_written_nowhere_and_the_office_has_nothing_of_a_note(
 ) -> None:
     assert anna.send(1, 5, picture(), text="Behind the till").json == {"note": 1}
     assert Phone(application, "e" * 32).send(1, 5, text="Look").json == {"refused": 11}
-    files = {it: it.read_bytes() for it in tmp_path.rglob("*") if it.is_file()}
+    files = {path: path.read_bytes() for path in tmp_path.rglob("*") if path.is_file()}
     in_room = {it: data for it, data in files.items() if (tmp_path / "room") in it.parents}
     assert any(b"Behind the till" in data for data in in_room.values())
     assert not any(key.encode() in data for data in in_room.values() for key in (ANNA, "e" * 32))
@@ -279,7 +279,7 @@ def test_a_collector_has_so_many_notes_of_a_month(
     application: Application, anna: Phone, monkeypatch: pytest.MonkeyPatch
 ) -> None:
     monkeypatch.setattr(field_notes, "MOST_NOTES", 2)
-    assert [anna.send(1, 5, text=f"Look {it}").json.get("fault") for it in range(3)] == [None, None, "many"]
+    assert [anna.send(1, 5, text=f"Look {number}").json.get("fault") for number in range(3)] == [None, None, "many"]
     assert anna.send(1, 5, text="Look 1").json == {"note": 2}
     assert Phone(application, BENO).send(1, 3, text="Look").json == {"note": 3}
 

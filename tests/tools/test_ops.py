@@ -48,7 +48,7 @@ def test_the_units_are_verified_by_systemd(tmp_path: Path) -> None:
 def guides() -> str:
     """The documents about the machine."""
     return "".join(
-        (ROOT / f"docs/run/{it}.md").read_text(encoding="utf-8") for it in ("RUNNING", "FRONT", "SECOND-MACHINE")
+        (ROOT / f"docs/run/{text}.md").read_text(encoding="utf-8") for text in ("RUNNING", "FRONT", "SECOND-MACHINE")
     )
 
 
@@ -61,7 +61,7 @@ def test_what_the_units_start_is_there_and_named_in_the_guide() -> None:
 
 
 ADDED = {"CPI_ZONE", "CPI_COPY", "CPI_COPY_EVERY"} | {
-    f"CPI_DESK_{it}" for it in ("FRONT", "LISTEN", "NOTES", "PHONES", "SECOND_KEY", "SITE", "SUPERVISORS")
+    f"CPI_DESK_{text}" for text in ("FRONT", "LISTEN", "NOTES", "PHONES", "SECOND_KEY", "SITE", "SUPERVISORS")
 }
 """What an office adds to its office.conf: its clock, and what a second machine or the pages of the desk ask for."""
 
@@ -248,7 +248,7 @@ def test_the_desk_s_pages_take_notes_publish_and_print_keys_if_the_settings_say_
 
 def test_an_office_without_a_clock_does_not_start_and_says_how_to_set_it(cpi: Cpi, tmp_path: Path) -> None:
     """Neither does the desk's application. The shipped settings have none."""
-    shipped = dict(it.split("=", 1) for it in (OPS / "office.conf").read_text().splitlines() if it[:1] not in "#")
+    shipped = dict(line.split("=", 1) for line in (OPS / "office.conf").read_text().splitlines() if line[:1] not in "#")
     for settings in (shipped, {**shipped, "CPI_ZONE": ""}):
         started = start(cpi, tmp_path, **settings)
         assert (started.status, started.printed, started.told.count("\n")) == (WRONG, "", 1)

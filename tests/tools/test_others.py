@@ -164,7 +164,7 @@ def test_on_the_pages_of_a_website(cpi: Cpi, office: Path, tmp_path: Path) -> No
     publish(from_file(cpi, office, 9000), Config(agency="NSO", area="XX", **words), out, None, lambda _: None)
     pages = [*out.rglob("*.html")]
     assert len(pages) > 12
-    assert {page.name: found for page in pages if (found := faults_of(page))} == {}
+    assert {page.name: faults for page in pages if (faults := faults_of(page))} == {}
     levels = json.loads((out / "assets/levels.js").read_text(encoding="utf-8").partition("=")[2].rstrip(";\n"))
     assert levels["currency"] == f"\u2068{MARK}currency\u2069"
     assert levels["items"]["00"]["title"] == f"\u2068{MARK}All items\u2069"
@@ -187,7 +187,7 @@ def test_what_people_copy_has_no_signs_that_nobody_sees(tmp_path: Path) -> None:
         "assets/levels.js",
         "feed.xml",
         "calendar.ics",
-        *(str(it.relative_to(out)) for kind in ("data/*.csv", "picture/*.svg") for it in out.glob(kind)),
+        *(str(path.relative_to(out)) for kind in ("data/*.csv", "picture/*.svg") for path in out.glob(kind)),
     ]
     for name in names:
         assert not hidden.search((out / name).read_text(encoding="utf-8").replace("\\u2068", "\u2068")), name
@@ -207,7 +207,7 @@ def test_on_the_pages_of_an_explanation(office: Path, tmp_path: Path) -> None:
     assert run(None, "explain", office, "2026-01", "--series", "7/2", "--html", out / "life.html").status == 0
     pages = [*out.glob("*.html")]
     assert len(pages) == 7 and told.status == 0
-    assert {page.name: found for page in pages if (found := faults_of(page))} == {}
+    assert {page.name: faults for page in pages if (faults := faults_of(page))} == {}
     plain = run(None, "explain", office, "2026-01", "01.1.1.2-01").out
     assert f"{MARK}Flour, <b>wheat</b>, {MARK}1 kg; {MARK}Corner shop" in plain
 
@@ -231,5 +231,5 @@ def test_on_the_page_of_a_check(cpi: Cpi, office: Path, tmp_path: Path) -> None:
     read = Texts()
     read.feed((folder / "check/report.html").read_text(encoding="utf-8"))
     # (a path and a message are isolated as a whole)
-    bare = [it for it in read.faults if not it.startswith("not its own: ")]
+    bare = [fault for fault in read.faults if not fault.startswith("not its own: ")]
     assert bare == [] and read.marks > 3

@@ -130,7 +130,7 @@ def test_the_texts_of_a_report_are_shown(cpi: Cpi, tmp_path: Path) -> None:
         text = told.out + told.err
         assert "<U+202E>" in text
         assert not {*text} & {"\u202e", "\u2066"}
-    assert any("Corner\u202e shop\u2066" in it.read_text("utf-8") for it in (tmp_path / "month").glob("*.csv"))
+    assert any("Corner\u202e shop\u2066" in path.read_text("utf-8") for path in (tmp_path / "month").glob("*.csv"))
 
 
 def test_a_message_is_shown_too(tmp_path: Path) -> None:

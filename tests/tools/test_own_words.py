@@ -149,7 +149,9 @@ def png(width: int = 80, height: int = 20) -> bytes:
     rows = b"".join(b"\0" + b"\0" * width for _ in range(height))
     head = struct.pack(">IIBBBBB", width, height, 8, 0, 0, 0, 0)
     parts = ((b"IHDR", head), (b"IDAT", zlib.compress(rows)), (b"IEND", b""))
-    chunks = (struct.pack(">I", len(it)) + name + it + struct.pack(">I", zlib.crc32(name + it)) for name, it in parts)
+    chunks = (
+        struct.pack(">I", len(part)) + name + part + struct.pack(">I", zlib.crc32(name + part)) for name, part in parts
+    )
     return b"\x89PNG\r\n\x1a\n" + b"".join(chunks)
 
 
@@ -163,7 +165,7 @@ def folder_of(top: Path, files: dict[str, str]) -> Path:
 
 
 def test_each_language_says_what_it_lacks(tmp_path: Path) -> None:
-    folder = folder_of(tmp_path, {f"en/{it.file}": "Text." for it in SECTIONS if it.name != "sample"})
+    folder = folder_of(tmp_path, {f"en/{section.file}": "Text." for section in SECTIONS if section.name != "sample"})
     folder_of(tmp_path, {"fr/coverage.md": " \n", "fr/sample.md": "Texte."})
     first, second = read_own_words(folder, ("en", "fr")).lacking()
     wanted = "how outlets and items are chosen, and how many prices a month has"
@@ -213,7 +215,9 @@ def test_a_logo_is_a_whole_picture(tmp_path: Path) -> None:
 def site(published: list[Published], tmp_path_factory: pytest.TempPathFactory) -> Path:
     """The site of an office that says all in English but the response, and in Arabic the coverage, with a logo of its own."""
     top = tmp_path_factory.mktemp("words")
-    files = {f"en/{it.file}": f"# Head\n\nOur *{it.name}*." for it in SECTIONS if it.name != "response"}
+    files = {
+        f"en/{section.file}": f"# Head\n\nOur *{section.name}*." for section in SECTIONS if section.name != "response"
+    }
     folder = folder_of(top, {**files, "ar/coverage.md": "نطاق"})
     (folder / "logo.png").write_bytes(png())
     (folder / "ar/logo.png").write_bytes(png(20, 20))
@@ -225,7 +229,14 @@ def site(published: list[Published], tmp_path_factory: pytest.TempPathFactory) -
 def test_the_page_of_the_method_has_the_sections(site: Path) -> None:
     page = (site / "method.html").read_text(encoding="utf-8")
     ids = re.findall(r'<h2(?: id="([a-z]+)")?>', page)
-    assert [it for it in ids if it] == ["coverage", "weights", "sample", "revisions", "access", "contact"]
+    assert [element for element in ids if element] == [
+        "coverage",
+        "weights",
+        "sample",
+        "revisions",
+        "access",
+        "contact",
+    ]
     # (those of the index are before what the tool says, those of the office behind it)
     assert ids.index("sample") < ids.index("") < ids.index("revisions")
     assert "Access before a release Head Our access ." in words_of(site / "method.html")
@@ -238,8 +249,8 @@ def test_a_language_that_lacks_a_section_says_so(site: Path) -> None:
     page = (site / "ar/method.html").read_text(encoding="utf-8")
     assert '<h2 id="coverage">نطاق التغطية</h2>\n<p>نطاق</p>' in page
     others = re.findall(r'<h2 id="([a-z]+)">[^<]+</h2>\n<p class="note">([^<]+)</p>\n<div lang="en" dir="ltr">', page)
-    assert [it[0] for it in others] == ["weights", "sample", "revisions", "access", "contact"]
-    assert {it[1] for it in others} == {"هذا النص متاح لدى المكتب بلغة أخرى فقط."}
+    assert [element[0] for element in others] == ["weights", "sample", "revisions", "access", "contact"]
+    assert {element[1] for element in others} == {"هذا النص متاح لدى المكتب بلغة أخرى فقط."}
     assert "ليس لدى المكتب نص بعد عن: الردود." in words_of(site / "ar/method.html")
 
 
@@ -284,5 +295,7 @@ def test_the_example_says_all_in_each_of_its_languages() -> None:
     assert not [*words.lacking()] and words.logo("es")
     # (a table of as many rows, and links to the same places, but for the folder of the language)
     for section in SECTIONS:
-        texts = [found[section.name] for found in words.texts.values()]
-        assert len({(it.count("<tr>"), it.count("<li>"), it.count("<a "), it.count("<p>")) for it in texts}) == 1
+        texts = [text[section.name] for text in words.texts.values()]
+        assert (
+            len({(text.count("<tr>"), text.count("<li>"), text.count("<a "), text.count("<p>")) for text in texts}) == 1
+        )

@@ -138,8 +138,10 @@ def test_each_file_of_ops_has_its_place(members: dict[str, tarfile.TarInfo]) -> 
 
 def test_the_pages_are_there_as_they_stand(members: dict[str, tarfile.TarInfo]) -> None:
     wanted = {str(path.relative_to(ROOT)) for path in (ROOT / "web").rglob("*") if path.is_file()}
-    found = {name.removeprefix("usr/share/cpi/") for name in members if name.startswith("usr/share/cpi/web/")}
-    assert {name for name in found if not members[f"usr/share/cpi/{name}"].isdir()} == wanted
+    matching_members = {
+        name.removeprefix("usr/share/cpi/") for name in members if name.startswith("usr/share/cpi/web/")
+    }
+    assert {name for name in matching_members if not members[f"usr/share/cpi/{name}"].isdir()} == wanted
     # (what an office sets is a setting of its own, and the pages find it)
     assert members["usr/share/cpi/web/config.js"].linkname == "/etc/cpi/config.js"
     assert members["etc/cpi/config.js"].size == (ROOT / "web/config.js").stat().st_size
@@ -254,20 +256,20 @@ def test_the_notices_are_in_it(package: Path) -> None:
 def test_each_library_in_the_program_has_its_notice(cpi: Cpi) -> None:
     """A function's name in the program begins with its library's. (One letter can be chance.)"""
     names = re.findall(rb"\0([a-z][a-z0-9_]+)(?:::|\+\+)", cpi.path.read_bytes())
-    found = {name.decode() for name in names}
-    if not found:
+    texts = {name.decode() for name in names}
+    if not texts:
         pytest.skip("the program has no names of functions")
     listed = {name for said in works().values() for line in re.findall("^- Crates: .*$", said, re.M)
               for name in re.findall(r"`(\w+)`", line)}  # fmt: skip
-    assert {"clap", "cpi_office", "sqlite"} <= found
-    assert {name for name in found if not re.fullmatch("cpi(_.*)?", name)} - listed == set()
+    assert {"clap", "cpi_office", "sqlite"} <= texts
+    assert {name for name in texts if not re.fullmatch("cpi(_.*)?", name)} - listed == set()
 
 
 def test_nothing_is_made_without_a_notice(cpi: Cpi, tmp_path: Path) -> None:
     copied_inputs(tmp_path)
     with (tmp_path / "crates.txt").open("a") as file:
         file.write("cpi_more: cpi_rows far_library\n")
-    words = [str(it) for it in (tmp_path / "tools/package", "--to", tmp_path / "to", "--program", cpi.path)]
+    words = [str(path) for path in (tmp_path / "tools/package", "--to", tmp_path / "to", "--program", cpi.path)]
     ran = subprocess.run(words, capture_output=True, text=True, check=False)
     told = r"tools/package: THIRD-PARTY\.md has no entry for the crate far_library, [^\n]*\n"
     assert ran.returncode == 1 and re.fullmatch(told, ran.stderr)
@@ -382,7 +384,7 @@ def options(text: str) -> set[str]:
 def helps(cpi: Cpi) -> str:
     """All that the program says of its words."""
     words = ([str(cpi.path), *command, "--help"] for command in ((), ("replay",), ("serve",), ("table",)))
-    return "".join(subprocess.run(it, capture_output=True, text=True, check=True).stdout for it in words)
+    return "".join(subprocess.run(word, capture_output=True, text=True, check=True).stdout for word in words)
 
 
 def test_the_page_of_cpi_has_its_words_and_faults(cpi: Cpi, installed: Path) -> None:

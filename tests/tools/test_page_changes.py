@@ -90,7 +90,9 @@ def newest(dest: Path) -> Path:
 
 def is_same(copy: Path, office: Path) -> bool:
     """Whether a copy has the bytes of an office's file and of its log."""
-    return all(one.read_bytes() == it.read_bytes() for one, it in zip(*[(it, log_beside(it)) for it in (copy, office)]))
+    return all(
+        one.read_bytes() == it.read_bytes() for one, it in zip(*[(path, log_beside(path)) for path in (copy, office)])
+    )
 
 
 def turned(path: Path, page: int) -> None:

@@ -45,7 +45,7 @@ def test_a_column_is_named_in_words() -> None:
 def test_a_day_has_the_last_share_that_was_seen_of_it() -> None:
     rows = [Seen(202601, 5, 10, 9, -1), *(Seen(202602, after, 10, priced, -1) for after, priced in ((9, 1), (99, 2)))]
     chart = chart_of([*rows, Seen(202602, 2 * DAY, 10, 10, -1)], 202602)
-    assert [(it.day, it.percent, it.x, it.y, it.height) for it in chart.bars] == [
+    assert [(bar.day, bar.percent, bar.x, bar.y, bar.height) for bar in chart.bars] == [
         (1, "20.0", 0, HIGH * 0.8, HIGH * 0.2),
         (3, "100.0", 2 * WIDE, 0.0, HIGH),
     ]
@@ -65,12 +65,12 @@ def test_the_response_by_day_is_a_picture_and_rows(application: Application, ada
 def test_each_table_has_a_caption_and_each_head_its_scope(application: Application, ada: Person) -> None:
     application.tried(ada, MONTH)
     made(application, ada)
-    paths = [f"/month/{MONTH}/{it}" for it in ("", "table", "freeze", "looks", "explain/01.1.1.1-01")]
-    paths += [f"{YEAR}?sheet={it}" for it in ("weights", "classification", "series", "leaving")]
-    paths += [f"/sample/{it}" for it in ("items", "outlets", "collectors", "assignments", "calendar")]
+    paths = [f"/month/{MONTH}/{text}" for text in ("", "table", "freeze", "looks", "explain/01.1.1.1-01")]
+    paths += [f"{YEAR}?sheet={text}" for text in ("weights", "classification", "series", "leaving")]
+    paths += [f"/sample/{text}" for text in ("items", "outlets", "collectors", "assignments", "calendar")]
     for path in (*paths, "/calendar", "/log", "/publish", "/records"):
         text = ada.get(path).text
         assert text.count("<table") == len(re.findall("<table[^>]*>\\s*<caption", text)), path
         assert text.count("<th ") == len(re.findall('<th scope="(?:col|row)"', text)) and "<th>" not in text, path
-        rows = [it for body in re.findall("<tbody>(.*?)</tbody>", text, re.S) for it in body.split("<tr")[1:]]
-        assert [it for it in rows if '<th scope="row"' not in it] == [], path
+        rows = [word for body in re.findall("<tbody>(.*?)</tbody>", text, re.S) for word in body.split("<tr")[1:]]
+        assert [row for row in rows if '<th scope="row"' not in row] == [], path

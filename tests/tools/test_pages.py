@@ -36,7 +36,12 @@ def test_a_decimal_is_rounded_once_halves_away_from_zero(over: int, under: int, 
 def test_figures_as_texts() -> None:
     assert [exact.points(105_714_286, digits) for digits in (1, 3, 6)] == ["105.7", "105.714", "105.714286"]
     assert [exact.tenths(it) for it in (-3, 0, 12, None)] == ["-0.3", "0.0", "1.2", ""]
-    assert [exact.with_sign(it) for it in ("-0.31", "0.00", "0.31", "12.0")] == ["\u22120.31", "0.00", "+0.31", "+12.0"]
+    assert [exact.with_sign(text) for text in ("-0.31", "0.00", "0.31", "12.0")] == [
+        "\u22120.31",
+        "0.00",
+        "+0.31",
+        "+12.0",
+    ]
     assert [page_templates.percent(it) for it in (-3, 0, None)] == ["\u22120.3\u202f%", "0.0\u202f%", "\u2013"]
     assert page_templates.size(-3) == "0.3"
     total = exact.Ratio(1, 6).plus(exact.Ratio(-1, 4))
@@ -86,7 +91,7 @@ def test_a_picture_has_a_name_and_all_of_it_lies_within(drawn: str) -> None:
 
 def drawn_bars(root: ElementTree.Element, kind: str) -> list[tuple[float, float, float, float]]:
     """The columns of a class: left, top, width, height."""
-    path = next((it.get("d", "") for it in root.iter(SVG + "path") if it.get("class") == kind), "")
+    path = next((element.get("d", "") for element in root.iter(SVG + "path") if element.get("class") == kind), "")
     form = r"M([\d.]+) ([\d.]+)h([\d.]+)v([\d.]+)h-[\d.]+z"
     return [(float(left), float(top), float(wide), float(high)) for left, top, wide, high in re.findall(form, path)]
 
@@ -94,7 +99,7 @@ def drawn_bars(root: ElementTree.Element, kind: str) -> list[tuple[float, float,
 def test_columns_begin_at_zero() -> None:
     root = parts_of(charts.columns(Picture("c", "Change", "Both ways."), MONTHS[:3], [2.0, -1.0, 2.0]))
     ((_, top, _, high),), ((_, foot, _, low),) = (drawn_bars(root, kind) for kind in ("bar", "bar down"))
-    zero = next(it for it in root.iter(SVG + "path") if it.get("class") == "zero")
+    zero = next(element for element in root.iter(SVG + "path") if element.get("class") == "zero")
     at = float(re.findall(r"[\d.]+", zero.get("d", ""))[1])
     assert top + high == pytest.approx(at, abs=0.11) and foot == pytest.approx(at, abs=0.11)
     assert high == pytest.approx(2 * low, abs=0.11)
@@ -103,7 +108,7 @@ def test_columns_begin_at_zero() -> None:
 
 def test_a_gap_in_a_line_is_a_gap() -> None:
     root = parts_of(charts.lines(Picture("g", "Gap", "A gap."), MONTHS[:4], [Line(OWN, [1.0, 2.0, None, 3.0])]))
-    path = next(it for it in root.iter(SVG + "path") if it.get("class") == "line own")
+    path = next(element for element in root.iter(SVG + "path") if element.get("class") == "line own")
     # (the month after the gap is a short stroke: a line to nowhere isn't drawn)
     assert re.sub(r"[\d. ]+", "", path.get("d", "")) == "MLMh"
 
@@ -111,14 +116,14 @@ def test_a_gap_in_a_line_is_a_gap() -> None:
 def test_the_marks_of_an_axis_are_round_and_span_the_values() -> None:
     assert charts.steps(0.0, 4.2) == [0, 2, 4, 6]
     # (0.2 apart they would be seven, one too many)
-    assert [charts.write_tick(it) for it in charts.steps(-0.7, 0.3)] == ["\u22121", "\u22120.5", "0", "0.5"]
+    assert [charts.write_tick(step) for step in charts.steps(-0.7, 0.3)] == ["\u22121", "\u22120.5", "0", "0.5"]
     assert [charts.write_signed(it) for it in (-0.04, 0.0, 0.3, -0.3)] == ["0.0", "0.0", "+0.3", "\u22120.3"]
 
 
 def test_bars_of_a_table_share_one_scale() -> None:
-    found = charts.track([3.0, 0.0, -1.0])
-    assert found.zero == "25.00"
-    assert found.bars == [("25.00", "75.00", False), ("25.00", "0.00", False), ("0.00", "25.00", True)]
+    track = charts.track([3.0, 0.0, -1.0])
+    assert track.zero == "25.00"
+    assert track.bars == [("25.00", "75.00", False), ("25.00", "0.00", False), ("0.00", "25.00", True)]
     assert charts.track([]) == ("0.00", [])
 
 
@@ -150,7 +155,7 @@ def test_a_page_that_fails_leaves_nothing(tmp_path: Path) -> None:
     (own / "page.html").write_text("{{ forgotten }}")
     with pytest.raises(jinja2.UndefinedError):
         page_templates.write_page(page_templates.environment([own]), "page.html", tmp_path / "x.html")
-    assert [it.name for it in tmp_path.iterdir()] == ["own"]
+    assert [path.name for path in tmp_path.iterdir()] == ["own"]
 
 
 def test_a_template_is_compiled_once_in_each_language(tmp_path: Path, monkeypatch: pytest.MonkeyPatch) -> None:
@@ -179,9 +184,9 @@ def test_a_figure_of_a_template_has_the_digits_of_its_environment(tmp_path: Path
     """Though the code of the template has what the filter gave."""
     (tmp_path / "own.html").write_text("{{ '12.5'|in_percent }}")
     tellers = [teller_of("ar", digits) for digits in ("latn", "arab")] * 2
-    written = [section_pages.environment([tmp_path], it).get_template("own.html").render() for it in tellers]
-    assert ["12" in it for it in written] == [True, False] * 2
-    assert ["\u0661\u0662" in it for it in written] == [False, True] * 2
+    written = [section_pages.environment([tmp_path], teller).get_template("own.html").render() for teller in tellers]
+    assert ["12" in render for render in written] == [True, False] * 2
+    assert ["\u0661\u0662" in render for render in written] == [False, True] * 2
 
 
 def constants_through_filters(source: str) -> list[str]:

@@ -81,7 +81,7 @@ def test_a_note_more_than_are_kept_is_refused_without_opening_its_picture(
     monkeypatch.setattr(field_notes, "MOST_NOTES", 1)
     anna = Phone(application, ANNA)
     answers = [anna.send(1, 5, picture(), text=text) for text in ("First", "Second", "First")]
-    assert [it.json.get("fault", it.json.get("note")) for it in answers] == [1, "many", 1]
+    assert [answer.json.get("fault", answer.json.get("note")) for answer in answers] == [1, "many", 1]
     assert opening.count == 1
 
 
@@ -185,7 +185,7 @@ ENDS = (
 )
 
 
-@pytest.mark.parametrize("commands, kind, told", ENDS, ids=[it[0] for it in ENDS])
+@pytest.mark.parametrize("commands, kind, told", ENDS, ids=[end[0] for end in ENDS])
 def test_each_end_of_the_process_is_told_rightly(
     commands: str, kind: type[Exception], told: str, tmp_path: Path, monkeypatch: pytest.MonkeyPatch
 ) -> None:

@@ -29,20 +29,20 @@ SVG = "{http://www.w3.org/2000/svg}"
 
 def months_of(levels: list[str], year: int = 2026) -> Series:
     """Tables of one item at some levels, from January of a year on, in the office's digits."""
-    found = [Published(Listed(f"{year - 1}-12", 1, 0), b"")]
+    publications = [Published(Listed(f"{year - 1}-12", 1, 0), b"")]
     before = 100.0
     for at, level in enumerate(levels, 1):
         change = f"{100 * (float(level) / before - 1):.1f}".replace("-0.0", "0.0")
         rows = (f"{code},1000000,{level},{level},{change},,0,Title of {code}\n" for code in ("00", "01"))
-        found.append(Published(Listed(f"{year}-{at:02}", 1, at), "".join(rows).encode()))
+        publications.append(Published(Listed(f"{year}-{at:02}", 1, at), "".join(rows).encode()))
         before = float(level)
-    return Series(found)
+    return Series(publications)
 
 
 def marks_of(picture: str) -> list[float]:
     """The marks of the axis of values."""
     texts = re.findall(r'<text class="end" x="34" y="[^"]*">([^<]*)</text>', picture)
-    return [float(it.replace("\u2212", "-")) for it in texts]
+    return [float(text.replace("\u2212", "-")) for text in texts]
 
 
 # ---- few figures
@@ -105,7 +105,7 @@ def pack(tmp_path_factory: pytest.TempPathFactory) -> Path:
 
 def texts_of(path: Path) -> list[str]:
     """The texts that a file draws, in their order."""
-    return ["".join(it.itertext()) for it in ET.parse(path).getroot().iter(f"{SVG}text")]
+    return ["".join(element.itertext()) for element in ET.parse(path).getroot().iter(f"{SVG}text")]
 
 
 def test_each_picture_of_a_page_is_a_file(pack: Path) -> None:
@@ -116,9 +116,9 @@ def test_each_picture_of_a_page_is_a_file(pack: Path) -> None:
         text = page.read_text(encoding="utf-8")
         all_files = re.findall(r'<a href="([^"]*\.svg)" download', text)
         # (the bars of a table are a file too, and in the page they are a table)
-        bars = {(page.parent / it).resolve() for it in all_files if it.endswith("-contributions.svg")}
+        bars = {(page.parent / file).resolve() for file in all_files if file.endswith("-contributions.svg")}
         assert len(bars) == (1 if page.name in ("index.html", "00.html") else 0), page
-        files = [it for it in all_files if (page.parent / it).resolve() not in bars]
+        files = [file for file in all_files if (page.parent / file).resolve() not in bars]
         found |= bars
         assert len(files) == text.count("<svg ") > 0
         for figure, name in zip(re.findall("<figure>.*?</figure>", text, re.S), files):
@@ -129,7 +129,7 @@ def test_each_picture_of_a_page_is_a_file(pack: Path) -> None:
             assert {html.unescape(name_of), html.unescape(unit)} <= {*texts_of(path)}, path
             found.add(path)
     # (those of releases, such as 2026-01-r1-level.svg, are below the pages of these)
-    of_items = {it for it in (pack / "picture").resolve().iterdir() if not re.match(r"\d{4}-\d\d-r\d-", it.name)}
+    of_items = {path for path in (pack / "picture").resolve().iterdir() if not re.match(r"\d{4}-\d\d-r\d-", path.name)}
     assert found == of_items and len(found) == 4 * 3 + 1 + 1
 
 
@@ -140,7 +140,7 @@ def test_a_file_says_whose_it_is(pack: Path) -> None:
     assert "Full line: Title of 02 Broken line: Title of 00" in whole
     assert "Source: Office <of> prices, Prices & more, up to December 2027" in whole
     root = ET.parse(pack / "picture/02-level.svg").getroot()
-    named = [root.find(f"{SVG}{it}") for it in ("title", "desc")]
+    named = [root.find(f"{SVG}{text}") for text in ("title", "desc")]
     assert root.get("aria-labelledby") == " ".join(it.get("id", "") for it in named if it is not None)
 
 
@@ -178,13 +178,15 @@ def test_a_long_title_is_broken_into_lines(title: str) -> None:
     of 14 in the East."""
     chart = of_node(Shown(Series(two_years())), "01")[0]
     root = ET.fromstring(drawing(chart, title, "Source: here"))
-    head = [it for it in root.findall(f"{SVG}text") if it.get("font-weight") == "650"]
-    lines = ["".join(it.itertext()) for it in head]
+    head = [element for element in root.findall(f"{SVG}text") if element.get("font-weight") == "650"]
+    lines = ["".join(element.itertext()) for element in head]
     written = "".join(lines).replace(" ", "")
     assert written.strip("\u2068\u2069") == title.replace(" ", "").replace("\u2069", "")
-    assert all(sum(14.0 if it > "\u2e80" else 7.7 for it in line.strip("\u2068\u2069")) <= 400 for line in lines)
+    assert all(
+        sum(14.0 if letter > "\u2e80" else 7.7 for letter in line.strip("\u2068\u2069")) <= 400 for line in lines
+    )
     height = float(root.get("height", ""))
-    assert all(0 < float(it.get("y", "")) < height for it in root.findall(f"{SVG}text"))
+    assert all(0 < float(element.get("y", "")) < height for element in root.findall(f"{SVG}text"))
 
 
 def test_a_file_has_the_words_of_its_language() -> None:
@@ -216,11 +218,11 @@ def test_the_label_of_a_bar_is_whole(pack: Path) -> None:
     row = Given("01", title, None, Ratio(-1, 3), Bar("0", "100", True))
     (chart,) = Change("T", "2026-12", False, SPEAKS_ENGLISH).of_items([row])
     root = ET.fromstring(drawing(chart, "T", "Source: here"))
-    texts = ["".join(it.itertext()) for it in root.iter(f"{SVG}text") if it.get("font-size") == "12"]
+    texts = ["".join(element.itertext()) for element in root.iter(f"{SVG}text") if element.get("font-size") == "12"]
     *lines, value = texts
     assert value == "\u22120.33" and len(lines) > 3 and max(map(len, lines)) <= 48
-    assert " ".join(it.strip("\u2068\u2069") for it in lines) == " ".join(title.split())
-    assert all((it[0] == "\u2068" and it[-1] == "\u2069") == ("\u202e" in it) for it in lines)
+    assert " ".join(line.strip("\u2068\u2069") for line in lines) == " ".join(title.split())
+    assert all((line[0] == "\u2068" and line[-1] == "\u2069") == ("\u202e" in line) for line in lines)
     assert chart.unit == "Percentage points of the monthly change, December 2026"
     assert float(root.get("height", "")) > chart.height
 

@@ -28,10 +28,10 @@ MOST, MOST_OF_MESSAGES = 8, 2
 
 def fault_in(every: Sequence[str], most: int) -> Fault:
     """The sentences with a form, if they are more than `most` percent."""
-    found = [f"- {sentence} [{'; '.join(forms)}]" for sentence in every if (forms := forms_of(sentence))]
-    if 100 * len(found) <= most * len(every):
+    texts = [f"- {sentence} [{'; '.join(forms)}]" for sentence in every if (forms := forms_of(sentence))]
+    if 100 * len(texts) <= most * len(every):
         return None
-    return "\n".join([f"{len(found)} of {len(every)} sentences have a form to change, over {most} percent:", *found])
+    return "\n".join([f"{len(texts)} of {len(every)} sentences have a form to change, over {most} percent:", *texts])
 
 
 def docstrings(path: Path) -> list[str]:

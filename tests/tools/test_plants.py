@@ -211,10 +211,10 @@ def test_the_lists_of_this_repository_are_of_functions_that_are_there() -> None:
     ran = subprocess.run([ROOT / "tools/plants", "--list"], capture_output=True, text=True, check=False)
     assert (ran.returncode, ran.stderr) == (0, "")
     for line in re.sub(r"^    .*\n", "", ran.stdout, flags=re.M).splitlines():
-        found = re.fullmatch(r"(\w+): (?:proves|no-ensures|house) (\S+) .*?(\w+)(?:: \{ .*|\(\).*)", line)
-        assert found, line
-        source = (ROOT / "crates" / found[1] / found[2]).read_text(encoding="utf-8")
-        assert re.search(rf"\bfn {found[3]}\b", source), line
+        match = re.fullmatch(r"(\w+): (?:proves|no-ensures|house) (\S+) .*?(\w+)(?:: \{ .*|\(\).*)", line)
+        assert match, line
+        source = (ROOT / "crates" / match[1] / match[2]).read_text(encoding="utf-8")
+        assert re.search(rf"\bfn {match[3]}\b", source), line
 
 
 # ---- the runs

@@ -56,7 +56,7 @@ ASKED: dict[str, Callable[[PriceStore], object]] = {
     "repeated prices": lambda store: [*store.take_repeated()],
     "a mean": lambda store: [*store.settle(Rule("mean"))],
     "prices of the office": lambda store: store.take_stored(
-        StoredPrice(it.month, *it[2:4], 1, *it[4:6]) for it in prices(400)
+        StoredPrice(price.month, *price[2:4], 1, *price[4:6]) for price in prices(400)
     ),
     "imports": lambda store: [rows.body() for month in MONTHS for _, rows in store.imports(month, 1, 10, str)],
     "months": lambda store: store.months(),
@@ -106,4 +106,4 @@ def test_a_quote_is_the_record_that_a_row_by_itself_is(text: str) -> None:
         assert isinstance(rows, QuoteRows) and len(rows) == 2
         lines = [record("quote", "1", "2026-01", "price", "10"), record("quote", text, "2026-01", text, text, text)]
         assert rows.body() == "".join(f"{line}\n" for line in lines)
-        assert [record(*it.fields) for it in rows] == lines
+        assert [record(*row.fields) for row in rows] == lines

@@ -355,13 +355,13 @@ def test_how_it_judges(other: dict[str, Any], state: int, told: tuple[str, ...])
 
 def test_three_late_months_are_named_and_the_others_counted() -> None:
     """Of 37 the three that are late for longest, in whatever order they come: a line of all would be 2.6 kB."""
-    hours = [(it * 7) % 37 for it in range(37)]
+    hours = [(number * 7) % 37 for number in range(37)]
     late = tuple(window(202601 + it % 12, NOW - hour * 3600) for it, hour in enumerate(hours))
-    found = probe_output.judge_office(seen(late=late), chosen("--late", "10,36"))
-    assert found.state == CRITICAL
+    office = probe_output.judge_office(seen(late=late), chosen("--late", "10,36"))
+    assert office.state == CRITICAL
     ends = ("2027-01-13 20:00 UTC", "2027-01-13 21:00 UTC", "2027-01-13 22:00 UTC", "no table of 34 more months")
-    assert len(found.texts) == 4 and all(told.endswith(end) for told, end in zip(found.texts, ends))
-    told, _, figures = probe_output.nagios_line(seen(late=late), found).partition(" | ")
+    assert len(office.texts) == 4 and all(told.endswith(end) for told, end in zip(office.texts, ends))
+    told, _, figures = probe_output.nagios_line(seen(late=late), office).partition(" | ")
     assert len(told) < 250 and " late_tables=37 " in figures
     four = probe_output.judge_office(seen(late=late[:4]), chosen())
     assert len(four.texts) == 4 and four.texts[-1] == "no table of 1 more month"
@@ -372,8 +372,8 @@ def test_equal_levels_are_taken() -> None:
 
 
 def test_levels_are_chosen() -> None:
-    found = probe_output.judge_office(seen(answer=Answer((), 12)), chosen("--slow", "12,13", "--age", "25,25"))
-    assert found == (2, ("the last backup is 25 hours old", "it answered after 12 ms"))
+    office = probe_output.judge_office(seen(answer=Answer((), 12)), chosen("--slow", "12,13", "--age", "25,25"))
+    assert office == (2, ("the last backup is 25 hours old", "it answered after 12 ms"))
     other = chosen("--days", "23,22", "--left", "10001,0", "--refused", "2")
     words = (
         "the certificate cert.pem ends 2027-02-06 08:00 UTC, in 22 days",

@@ -241,8 +241,8 @@ def test_an_office_without_a_profile_publishes_what_it_did(published: list[Publi
     publish(published, CONFIG, plain, None, quiet)
     config = CONFIG._replace(profiles=(read_profile(ECOFIN),))
     publish(published, config, own, None, quiet)
-    names = {it.relative_to(plain).as_posix() for it in plain.rglob("*") if it.is_file()}
-    more = {it.relative_to(own).as_posix() for it in own.rglob("*") if it.is_file()} - names
+    names = {path.relative_to(plain).as_posix() for path in plain.rglob("*") if path.is_file()}
+    more = {path.relative_to(own).as_posix() for path in own.rglob("*") if path.is_file()} - names
     assert more == {f"data/profiles/{name}" for name in ("ECOFIN.sdmx.csv", "ECOFIN.sdmx.xml", "csv-metadata.json")}
     differing = {name for name in names if (plain / name).read_bytes() != (own / name).read_bytes()}
     assert differing == {"SHA256SUMS", "data.html"}

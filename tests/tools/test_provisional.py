@@ -37,24 +37,24 @@ def test_sdmx_has_p_in_each_of_the_months_and_no_other(data: Path) -> None:
     assert {row["OBS_STATUS"] for row in rows if row["TIME_PERIOD"] in LAST} == {"P"}
     assert {row["OBS_STATUS"] for row in rows if row["TIME_PERIOD"] not in LAST} == {"A", "B"}
     found = ElementTree.parse(data / "cpi.sdmx.xml").iter("Obs")
-    assert [it.get("OBS_STATUS") for it in found] == [row["OBS_STATUS"] for row in rows]
+    assert [element.get("OBS_STATUS") for element in found] == [row["OBS_STATUS"] for row in rows]
 
 
 def test_a_break_is_more_than_provisional(published: list[Published], tmp_path: Path) -> None:
-    tables = [it for it in published if it.listed.month <= "2027-01"]
+    tables = [publication for publication in published if publication.listed.month <= "2027-01"]
     publish(tables, CONFIG, tmp_path / "public", None, lambda _: None)
     rows = [row for row in rows_of(tmp_path / "public/data/cpi.sdmx.csv") if row["COICOP18"] == "CP01162"]
-    found = {
+    statuses = {
         row["MEASURE"]: row["OBS_STATUS"]
         for row in rows
         if row["TIME_PERIOD"] == "2027-01" and row["TRANSFORMATION"] == "N"
     }
-    assert found == {"CPI": "B", "CPIC": "B", "CPIW": "P", "CPIS": "P"}
+    assert statuses == {"CPI": "B", "CPIC": "B", "CPIW": "P", "CPIS": "P"}
     # (a year whose December can still be revised)
     years = {
-        (it["TIME_PERIOD"], it["OBS_STATUS"])
-        for it in rows_of(tmp_path / "public/data/cpi.sdmx.csv")
-        if it["FREQ"] == "A" and it["COICOP18"] == "_T"
+        (row["TIME_PERIOD"], row["OBS_STATUS"])
+        for row in rows_of(tmp_path / "public/data/cpi.sdmx.csv")
+        if row["FREQ"] == "A" and row["COICOP18"] == "_T"
     }
     assert years == {("2025", "A"), ("2026", "P")}
 
@@ -84,7 +84,13 @@ def test_a_month_that_becomes_final_is_marked_no_more(published: list[Published]
     """The pack over the one before has the bytes of one that is made from nothing, archives too."""
     config = CONFIG._replace(reference="", provisional=14, years=1)
     out = tmp_path / "public"
-    publish([it for it in published if it.listed.month < "2027-03"], config, out, None, lambda _: None)
+    publish(
+        [publication for publication in published if publication.listed.month < "2027-03"],
+        config,
+        out,
+        None,
+        lambda _: None,
+    )
     publish(published, config, out, None, lambda _: None)
     publish(published, config, tmp_path / "new", None, lambda _: None)
     for name in ("printed.csv", "cpi.sdmx.csv", "cpi.jsonstat.json", "years/2025.zip", "years/2026.zip"):

@@ -99,7 +99,7 @@ def test_no_other_module_of_publish_reaches_an_office() -> None:
 
 
 def test_what_is_under_embargo_is_not_there(published: list[Published], public_office: Office) -> None:
-    known = {it.listed[:2] for it in published}
+    known = {publication.listed[:2] for publication in published}
     assert known == {*shown()} and not known & {*public_office.hidden}
 
 
@@ -121,8 +121,8 @@ class Pages(http.server.BaseHTTPRequestHandler):
 
     def do_GET(self) -> None:
         self.asked.append(self.path)
-        bodies = {f"/table/{it.listed.month}/csv/{it.listed.revision}": it.table for it in self.tables}
-        bodies["/tables"] = self.listed or json.dumps({"tables": [it.listed for it in self.tables]}).encode()
+        bodies = {f"/table/{table.listed.month}/csv/{table.listed.revision}": table.table for table in self.tables}
+        bodies["/tables"] = self.listed or json.dumps({"tables": [table.listed for table in self.tables]}).encode()
         body = bodies.get(self.path)
         self.send_response(404 if body is None else 200)
         self.end_headers()

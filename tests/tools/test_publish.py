@@ -181,11 +181,11 @@ def wanted_observations(printed: Rows) -> list[Wanted]:
 def wanted_shares(printed: Rows) -> dict[tuple[str, str], str]:
     """By month and code the share of all weight, per mille, with six decimals."""
     rows = latest(printed)
-    found = {of: Fraction(1000 * int(row[1]), int(rows[of[0], "00"][1])) for of, row in rows.items()}
+    fractions = {of: Fraction(1000 * int(row[1]), int(rows[of[0], "00"][1])) for of, row in rows.items()}
     for month in {month for month, _ in rows}:
-        divisions = [share for (its_month, code), share in found.items() if its_month == month and len(code) == 2]
+        divisions = [share for (its_month, code), share in fractions.items() if its_month == month and len(code) == 2]
         assert sum(divisions) == 2000, "divisions, and all items"
-    return {of: f"{Decimal(int(share * 10**6 + Fraction(1, 2))).scaleb(-6):.6f}" for of, share in found.items()}
+    return {of: f"{Decimal(int(share * 10**6 + Fraction(1, 2))).scaleb(-6):.6f}" for of, share in fractions.items()}
 
 
 def test_shares_are_in_each_form(pack: Path, printed: Rows) -> None:
@@ -204,7 +204,7 @@ def test_shares_are_in_each_form(pack: Path, printed: Rows) -> None:
 
 def levels_of(pack: Path) -> list[dict[str, str]]:
     """The rows of cpi.csv with the level that is 100 in the office's own reference period, empty if there is none."""
-    moved = {(it["month"], it["code"]): it["rereferenced"] for it in rows_of(pack / "data/rereferenced.csv")}
+    moved = {(row["month"], row["code"]): row["rereferenced"] for row in rows_of(pack / "data/rereferenced.csv")}
     return [
         {**row, "rereferenced": moved.get((row["month"], row["code"]), "")} for row in rows_of(pack / "data/cpi.csv")
     ]
@@ -220,11 +220,11 @@ def in_csv(path: Path) -> Iterator[Wanted]:
 
 
 def in_xml(path: Path) -> Iterator[Wanted]:
-    for found in ElementTree.parse(path).iter("Series"):
-        if found.get("FREQ") != "M":
+    for element in ElementTree.parse(path).iter("Series"):
+        if element.get("FREQ") != "M":
             continue
-        key = [found.get(name, "") for name in ("MEASURE", "TRANSFORMATION", "COICOP18")]
-        for obs in found.iter("Obs"):
+        key = [element.get(name, "") for name in ("MEASURE", "TRANSFORMATION", "COICOP18")]
+        for obs in element.iter("Obs"):
             names = ("TIME_PERIOD", "OBS_VALUE", "IMPUTED_PRICES", "REVISION")
             yield Wanted(*key, *(obs.get(name, "") for name in names))
 
@@ -262,23 +262,26 @@ COMMON = "{http://www.sdmx.org/resources/sdmxml/schemas/v2_1/common}"
 
 def test_the_structure_has_each_id_that_the_data_use(pack: Path) -> None:
     root = ElementTree.parse(pack / "data/structure.sdmx.xml").getroot()
-    codes = {it.get("id"): {code.get("id") for code in it} for it in root.iter(STRUCTURE + "Codelist")}
-    listed = {it.get("id", "") for it in root.iter(STRUCTURE + "Dimension") if it.get("position")}
-    attributes = {it.get("id", "") for it in root.iter(STRUCTURE + "Attribute")}
+    codes = {element.get("id"): {code.get("id") for code in element} for element in root.iter(STRUCTURE + "Codelist")}
+    listed = {element.get("id", "") for element in root.iter(STRUCTURE + "Dimension") if element.get("position")}
+    attributes = {element.get("id", "") for element in root.iter(STRUCTURE + "Attribute")}
     head, *rows = csv.reader((pack / "data/cpi.sdmx.csv").open(encoding="utf-8", newline=""))
     assert {*head[3:]} == listed | attributes | {"TIME_PERIOD", "OBS_VALUE"}
     coded = {"MEASURE", "UNIT_MEASURE", "COICOP18", "TRANSFORMATION", "IMPUTED_PRICES"}
     assert codes.keys() == {f"CL_{name}" for name in coded}
     shared = {("SDMX", "CL_FREQ", "2.1"), ("SDMX", "CL_AREA", "2.0.1"), ("SDMX", "CL_OBS_STATUS", "2.2")}
-    named = [(it.get("class"), it.get("id", "")) for it in root.iter("Ref")]
+    named = [(element.get("class"), element.get("id", "")) for element in root.iter("Ref")]
     lists = {
-        (it.get("agencyID"), it.get("id"), it.get("version"))
-        for it in root.iter("Ref")
-        if it.get("class") == "Codelist"
+        (element.get("agencyID"), element.get("id"), element.get("version"))
+        for element in root.iter("Ref")
+        if element.get("class") == "Codelist"
     }
-    own = {(it.get("agencyID"), it.get("id"), it.get("version")) for it in root.iter(STRUCTURE + "Codelist")}
+    own = {
+        (element.get("agencyID"), element.get("id"), element.get("version"))
+        for element in root.iter(STRUCTURE + "Codelist")
+    }
     assert lists == shared | own and len(own) == 5
-    concepts = [it.get("id", "") for it in root.iter(STRUCTURE + "Concept")]
+    concepts = [element.get("id", "") for element in root.iter(STRUCTURE + "Concept")]
     assert sorted(concepts) == ["COICOP18", "IMPUTED_PRICES", "MEASURE", "REVISION", "TRANSFORMATION"]
     assert sorted(name for kind, name in named if kind == "Concept") == sorted(head[3:])
     schemes = {name: scheme_of(root, name) for name in head[3:]}
@@ -288,19 +291,19 @@ def test_the_structure_has_each_id_that_the_data_use(pack: Path) -> None:
     for at, name in enumerate(head):
         used = {row[at] for row in rows} - {""}
         assert used <= codes.get(f"CL_{name}", used) and used, name
-    titles = {it.get("id"): it.findtext(COMMON + "Name") for it in root.iter(STRUCTURE + "Code")}
+    titles = {element.get("id"): element.findtext(COMMON + "Name") for element in root.iter(STRUCTURE + "Code")}
     assert titles["CP01112-01"] == "Flour & <meal>"
 
 
 def scheme_of(root: ElementTree.Element, concept: str) -> tuple[str, ...]:
     """The list of concepts in which a structure looks for a concept: its agency, id and version."""
     names = ("agencyID", "maintainableParentID", "maintainableParentVersion")
-    (found,) = {
-        tuple(it.get(name, "") for name in names)
-        for it in root.iter("Ref")
-        if (it.get("class"), it.get("id")) == ("Concept", concept)
+    (scheme,) = {
+        tuple(element.get(name, "") for name in names)
+        for element in root.iter("Ref")
+        if (element.get("class"), element.get("id")) == ("Concept", concept)
     }
-    return found
+    return scheme
 
 
 def test_a_renamed_dimension_keeps_the_concept_that_sdmx_has(published: list[Published], tmp_path: Path) -> None:
@@ -308,7 +311,9 @@ def test_a_renamed_dimension_keeps_the_concept_that_sdmx_has(published: list[Pub
     (tmp_path / "office.ini").write_text(INI + words)
     publish(published[:2], read_config(tmp_path / "office.ini", KNOWN_IDS), tmp_path / "public", None, quiet)
     root = ElementTree.parse(tmp_path / "public/data/structure.sdmx.xml").getroot()
-    dimensions = [(it.get("id"), next(it.iter("Ref")).get("id")) for it in root.iter(STRUCTURE + "Dimension")]
+    dimensions = [
+        (element.get("id"), next(element.iter("Ref")).get("id")) for element in root.iter(STRUCTURE + "Dimension")
+    ]
     assert ("FREQUENCY", "FREQ") in dimensions and ("WHAT", "WHAT") in dimensions
     assert scheme_of(root, "FREQ") == ("SDMX", "CROSS_DOMAIN_CONCEPTS", "2.1")
     assert scheme_of(root, "WHAT") == ("NSO", "CS_CPI", "1.0.0")
@@ -320,11 +325,11 @@ KINDS = ("Dataflow", "Codelist", "ConceptScheme", "DataStructure")
 def artefacts(folder: Path) -> dict[str, tuple[str, bytes]]:
     """By id, the version of each artefact and its content, without any version in it."""
     root = ElementTree.parse(folder / "data/structure.sdmx.xml")
-    found = {}
-    for it in [it for kind in KINDS for it in root.iter(STRUCTURE + kind)]:
+    artefacts = {}
+    for it in [element for kind in KINDS for element in root.iter(STRUCTURE + kind)]:
         assert it.get("isFinal") == "false"
-        found[it.get("id", "")] = (it.get("version", ""), ElementTree.tostring(it))
-    return found
+        artefacts[it.get("id", "")] = (it.get("version", ""), ElementTree.tostring(it))
+    return artefacts
 
 
 def test_a_version_follows_the_content(published: list[Published], pack: Path, tmp_path: Path) -> None:
@@ -349,8 +354,11 @@ def test_a_version_follows_the_content(published: list[Published], pack: Path, t
 
 def test_a_code_has_the_one_above_it(pack: Path, printed: Rows) -> None:
     root = ElementTree.parse(pack / "data/structure.sdmx.xml")
-    (items,) = [it for it in root.iter(STRUCTURE + "Codelist") if it.get("id") == "CL_COICOP18"]
-    above = {it.get("id", ""): [ref.get("id", "") for ref in it.iter("Ref")] for it in items.iter(STRUCTURE + "Code")}
+    (items,) = [element for element in root.iter(STRUCTURE + "Codelist") if element.get("id") == "CL_COICOP18"]
+    above = {
+        element.get("id", ""): [ref.get("id", "") for ref in element.iter("Ref")]
+        for element in items.iter(STRUCTURE + "Code")
+    }
     assert above.pop("_T") == []
     for code in {code for _, code in latest(printed)} - {"00"}:
         parent = {2: "00", 11: code[:8]}.get(len(code), code[:-2])
@@ -371,33 +379,37 @@ def test_the_sender_and_the_language_of_titles(published: list[Published], tmp_p
         text = (tmp_path / "public/data" / name).read_text(encoding="utf-8")
         assert '<message:Sender id="NSO_PRICES"/>' in text
     language = "{http://www.w3.org/XML/1998/namespace}lang"
-    for found in root.iter(STRUCTURE + "Codelist"):
-        names = {name.get(language) for code in found.iter(STRUCTURE + "Code") for name in code.iter(COMMON + "Name")}
-        assert names == ({"cs"} if found.get("id") == "CL_COICOP18" else {"en"})
+    for element in root.iter(STRUCTURE + "Codelist"):
+        names = {name.get(language) for code in element.iter(STRUCTURE + "Code") for name in code.iter(COMMON + "Name")}
+        assert names == ({"cs"} if element.get("id") == "CL_COICOP18" else {"en"})
     lists = {
-        (it.get("agencyID"), it.get("id"), it.get("version"))
-        for it in root.iter("Ref")
-        if it.get("class") == "Codelist"
+        (element.get("agencyID"), element.get("id"), element.get("version"))
+        for element in root.iter("Ref")
+        if element.get("class") == "Codelist"
     }
     assert lists >= {("SDMX", "CL_FREQ", "2.2"), ("NSO", "CL_REGIONS", "1.4"), ("SDMX", "CL_OBS_STATUS", "2.2")}
 
 
 def test_sdmx_has_annual_averages(pack: Path) -> None:
-    rows = [it for it in rows_of(pack / "data/cpi.sdmx.csv") if it["FREQ"] == "A"]
-    found = {(it["TRANSFORMATION"], it["COICOP18"], it["TIME_PERIOD"]): it["OBS_VALUE"] for it in rows}
+    rows = [row for row in rows_of(pack / "data/cpi.sdmx.csv") if row["FREQ"] == "A"]
+    values = {(row["TRANSFORMATION"], row["COICOP18"], row["TIME_PERIOD"]): row["OBS_VALUE"] for row in rows}
     wanted = {}
     for row in rows_of(pack / "data/averages.csv"):
         for kind, column in (("N", "average"), ("G1", "change")):
             if row[column]:
                 wanted[kind, id_of(row["code"]), row["year"]] = row[column]
-    assert found == wanted and len(rows) == len(found) and len(found) > 40
-    assert {(it["MEASURE"], it["OBS_STATUS"], it["REVISION"]) for it in rows} == {("CPI", "A", "")}
+    assert values == wanted and len(rows) == len(values) and len(values) > 40
+    assert {(row["MEASURE"], row["OBS_STATUS"], row["REVISION"]) for row in rows} == {("CPI", "A", "")}
     # the table of December 2025 came out 900 seconds after the beginning of its month
-    assert {it["EMBARGO_TIME"] for it in rows if it["TIME_PERIOD"] == "2025"} == {"1970-01-01T03:35:00Z"}
-    in_file = [it for it in ElementTree.parse(pack / "data/cpi.sdmx.xml").iter("Series") if it.get("FREQ") == "A"]
-    told = {(it.get("TRANSFORMATION"), it.get("COICOP18"), obs.get("TIME_PERIOD")): obs.get("OBS_VALUE")
-            for it in in_file for obs in it.iter("Obs")}  # fmt: skip
-    assert told == found
+    assert {row["EMBARGO_TIME"] for row in rows if row["TIME_PERIOD"] == "2025"} == {"1970-01-01T03:35:00Z"}
+    in_file = [
+        element
+        for element in ElementTree.parse(pack / "data/cpi.sdmx.xml").iter("Series")
+        if element.get("FREQ") == "A"
+    ]
+    told = {(element.get("TRANSFORMATION"), element.get("COICOP18"), obs.get("TIME_PERIOD")): obs.get("OBS_VALUE")
+            for element in in_file for obs in element.iter("Obs")}  # fmt: skip
+    assert told == values
 
 
 def test_a_level_has_one_base_period(pack: Path, tmp_path: Path) -> None:
@@ -412,34 +424,34 @@ def test_a_level_has_one_base_period(pack: Path, tmp_path: Path) -> None:
         (tmp_path / "again", {"_T": "2026", "CP01": "2026", "CP02": "2026", "CP03": "2026-12"}, {"CP02": "2027-12"}),
     ):
         rows = rows_of(folder / "data/cpi.sdmx.csv")
-        levels = [it for it in rows if (it["MEASURE"], it["TRANSFORMATION"], it["FREQ"]) == ("CPI", "N", "M")]
-        first = {it["COICOP18"]: it["BASE_PER"] for it in reversed(levels)}
-        last = {it["COICOP18"]: it["BASE_PER"] for it in levels}
+        levels = [row for row in rows if (row["MEASURE"], row["TRANSFORMATION"], row["FREQ"]) == ("CPI", "N", "M")]
+        first = {level["COICOP18"]: level["BASE_PER"] for level in reversed(levels)}
+        last = {level["COICOP18"]: level["BASE_PER"] for level in levels}
         assert wanted.items() <= first.items()
         assert {code: last[code] for code in last if last[code] != first[code] and len(code) < 7} == later
-        assert {it["BASE_PER"] for it in rows if it["UNIT_MEASURE"] != "IX"} == {""}
+        assert {row["BASE_PER"] for row in rows if row["UNIT_MEASURE"] != "IX"} == {""}
         names = ("FREQ", "MEASURE", "COICOP18", "TIME_PERIOD", "BASE_PER")
         in_xml = {tuple(it[name] for name in names) for it in read_sdmx_ml(folder / "data/cpi.sdmx.xml")
                   if "BASE_PER" in it}  # fmt: skip
-        assert in_xml == {tuple(it[name] for name in names) for it in rows if it["BASE_PER"]}
-        assert all(re.fullmatch("[0-9]{4}(-[0-9]{2})?", it[-1]) for it in in_xml)
-        chained = {it[2]: it[-1] for it in sorted(in_xml) if it[1] == "CPIC"}
+        assert in_xml == {tuple(row[name] for name in names) for row in rows if row["BASE_PER"]}
+        assert all(re.fullmatch("[0-9]{4}(-[0-9]{2})?", names[-1]) for names in in_xml)
+        chained = {names[2]: names[-1] for names in sorted(in_xml) if names[1] == "CPIC"}
         assert chained.keys() == first.keys() and chained["_T"] in ("2024-12", "2025-12")
     rows = rows_of(tmp_path / "again/data/rereferenced.csv")
     # tea is 108 / 105.25 of its mean of 2026 in its December, and not linked to it when it comes again
-    assert {it["month"]: it["rereferenced"] for it in rows if it["code"] == "02"}["2026-12"] == "102.612827"
-    assert [it["code"] for it in rows if it["month"] == "2028-01"] == ["00", "01"]
+    assert {row["month"]: row["rereferenced"] for row in rows if row["code"] == "02"}["2026-12"] == "102.612827"
+    assert [row["code"] for row in rows if row["month"] == "2028-01"] == ["00", "01"]
 
 
 def decembers(printed: Rows) -> dict[tuple[str, str], tuple[str, bool]]:
     """By month and code, the December in which the level is 100, and whether it is the first level after a gap."""
-    found: dict[tuple[str, str], tuple[str, bool]] = {}
+    decembers: dict[tuple[str, str], tuple[str, bool]] = {}
     for month, code in sorted(latest(printed)):
-        earlier = [it for it in found if it[1] == code]
+        earlier = [december for december in decembers if december[1] == code]
         is_next = bool(earlier) and months_between(max(earlier)[0], month) == 1
-        december = found[max(earlier)][0] if is_next else f"{int(month[:4]) - 1}-12"
-        found[month, code] = (december, bool(earlier) and not is_next)
-    return found
+        december = decembers[max(earlier)][0] if is_next else f"{int(month[:4]) - 1}-12"
+        decembers[month, code] = (december, bool(earlier) and not is_next)
+    return decembers
 
 
 def months_between(one: str, other: str) -> int:
@@ -455,14 +467,14 @@ def test_each_level_says_where_it_is_100(pack: Path, printed: Rows) -> None:
             december, is_break = wanted[row["month"], row["code"]]
             assert (row["base"], row["break"]) == (december, str(int(is_break)))
     of_pears = rows_of(pack / f"node/{PEARS}.csv")
-    assert {(it["month"][:4], it["base"]) for it in of_pears} == {("2025", "2024-12"), ("2027", "2026-12")}
+    assert {(row["month"][:4], row["base"]) for row in of_pears} == {("2025", "2024-12"), ("2027", "2026-12")}
     breaks = {(month, id_of(code)) for (month, code), (_, is_break) in wanted.items() if is_break}
-    broken = [it for it in rows_of(pack / "data/cpi.sdmx.csv") if it["OBS_STATUS"] != "A"]
+    broken = [row for row in rows_of(pack / "data/cpi.sdmx.csv") if row["OBS_STATUS"] != "A"]
     kinds = {("CPI", "N", "B"), ("CPIC", "N", "B")}
-    assert {(it["MEASURE"], it["TRANSFORMATION"], it["OBS_STATUS"]) for it in broken} == kinds
-    assert {(it["TIME_PERIOD"], it["COICOP18"]) for it in broken} == breaks and len(broken) == 2 * len(breaks)
+    assert {(row["MEASURE"], row["TRANSFORMATION"], row["OBS_STATUS"]) for row in broken} == kinds
+    assert {(row["TIME_PERIOD"], row["COICOP18"]) for row in broken} == breaks and len(broken) == 2 * len(breaks)
     in_file = ElementTree.parse(pack / "data/cpi.sdmx.xml").iter("Series")
-    in_file_broken = [(obs.get("TIME_PERIOD"), it.get("COICOP18")) for it in in_file for obs in it
+    in_file_broken = [(obs.get("TIME_PERIOD"), element.get("COICOP18")) for element in in_file for obs in element
                       if obs.get("OBS_STATUS") == "B"]  # fmt: skip
     assert sorted(in_file_broken) == sorted([*breaks, *breaks])
     book = openpyxl.load_workbook(pack / "data/cpi.xlsx")
@@ -489,11 +501,13 @@ def test_the_workbook_has_each_figure_as_a_number(pack: Path, printed: Rows) -> 
     book = openpyxl.load_workbook(pack / "data/cpi.xlsx")
     figures = ["Index", "Monthly change", "Annual change", "Weights", "Shares", "Contributions", "Chained level"]
     assert book.sheetnames == ["Read me", *figures, "Reference periods"]
-    wanted_levels = {(it["month"], it["code"]): it["rereferenced"] or it["chained"] for it in levels_of(pack)}
-    assert figures_of(book["Index"]) == {key: Decimal(it) for key, it in wanted_levels.items()}
+    wanted_levels = {
+        (level["month"], level["code"]): level["rereferenced"] or level["chained"] for level in levels_of(pack)
+    }
+    assert figures_of(book["Index"]) == {key: Decimal(level) for key, level in wanted_levels.items()}
     for name, place in SHEETS.items():
-        found = figures_of(book[name])
-        assert found == {key: Decimal(row[place]) for key, row in latest(printed).items() if row[place]}
+        numbers = figures_of(book[name])
+        assert numbers == {key: Decimal(row[place]) for key, row in latest(printed).items() if row[place]}
         assert book[name].freeze_panes == "C2" and book[name]["A1"].font.b and not book[name]["A2"].font.b
     given = rows_of(pack / "data/contributions.csv")
     wanted = {(row["month"], row["code"]): row["contribution_year"] for row in given if row["of"] == "00"}
@@ -522,7 +536,7 @@ def test_members_of_the_workbook_have_no_time(pack: Path) -> None:
 def test_averages_and_other_reference_periods(pack: Path, printed: Rows) -> None:
     level = {key: Fraction(row[3]) for key, row in latest(printed).items()}
     codes = {code for month, code in level if month[:4] == "2025"}
-    means = {code: sum(level[f"2025-{it:02}", code] for it in range(1, 13)) / 12 for code in codes}
+    means = {code: sum(level[f"2025-{number:02}", code] for number in range(1, 13)) / 12 for code in codes}
     half = Fraction(1, 2 * 10**6)
     first = [row for row in rows_of(pack / "data/averages.csv") if row["year"] == "2025"]
     assert {row["code"] for row in first} == codes and {row["change"] for row in first} == {""}
@@ -560,7 +574,7 @@ def test_no_embargoed_figure_is_anywhere(cpi: Cpi, public_office: Office, pack: 
     assert len(hidden) > 15
     forms = [form.encode() for it in hidden for form in (it, it.replace(".", ""))]
     for name, data in texts(pack):
-        assert not [it for it in forms if it in data], name
+        assert not [form for form in forms if form in data], name
         assert LAST.encode() not in data and f"{HIDDEN_REVISION}-r2".encode() not in data, name
 
 
@@ -620,7 +634,7 @@ def test_a_moment_that_is_still_to_come_is_a_draft(
 
 def test_a_chain_of_manifests(published: list[Published], tmp_path: Path) -> None:
     """Each has the sum of the one before; over the same tables it stays as it is."""
-    out, first = tmp_path / "public", [it for it in published if it.listed.month < "2026-01"]
+    out, first = tmp_path / "public", [publication for publication in published if publication.listed.month < "2026-01"]
     publish(first, CONFIG, out, None, quiet)
     one = (out / "manifest.json").read_bytes()
     assert json.loads(one)["previous"] is None
@@ -654,7 +668,7 @@ def test_a_published_table_does_not_change_silently(published: list[Published], 
     with pytest.raises(CannotPublish, match="isn't the one that was published"):
         publish(other, CONFIG, tmp_path / "elsewhere", out / "manifest.json", quiet)
     assert {name: data for name, data in texts(out)} == before
-    assert sorted(it.name for it in tmp_path.iterdir()) == ["public"]
+    assert sorted(path.name for path in tmp_path.iterdir()) == ["public"]
 
 
 def test_a_folder_that_is_no_pack_is_left_alone(published: list[Published], tmp_path: Path) -> None:
@@ -662,7 +676,7 @@ def test_a_folder_that_is_no_pack_is_left_alone(published: list[Published], tmp_
     (tmp_path / "mine/letter").write_text("")
     with pytest.raises(NotPlaced, match="is there already, and isn't a folder that this tool wrote"):
         publish(published[:2], CONFIG, tmp_path / "mine", None, quiet)
-    assert [it.name for it in (tmp_path / "mine").iterdir()] == ["letter"]
+    assert [path.name for path in (tmp_path / "mine").iterdir()] == ["letter"]
 
 
 def test_a_fault_of_the_disk_names_the_folder(tmp_path: Path) -> None:
@@ -708,12 +722,12 @@ def test_the_sums_are_those_of_the_files(pack: Path) -> None:
     told = subprocess.run(["sha256sum", "--check", "--quiet", "SHA256SUMS"], cwd=pack, capture_output=True, check=False)
     assert (told.returncode, told.stdout, told.stderr) == (0, b"", b"")
     listed = {line.split("  ")[1] for line in (pack / "SHA256SUMS").read_text().splitlines()}
-    assert listed == {it.relative_to(pack).as_posix() for it in pack.rglob("*") if it.is_file()} - {"SHA256SUMS"}
+    assert listed == {path.relative_to(pack).as_posix() for path in pack.rglob("*") if path.is_file()} - {"SHA256SUMS"}
     tables = json.loads((pack / "manifest.json").read_text())["tables"]
-    assert [(it["month"], it["revision"]) for it in tables] == shown()
-    for it in tables:
-        data = (pack / f"data/tables/{it['month']}-r{it['revision']}.csv").read_bytes()
-        assert it["sha256"] == hashlib.sha256(data).hexdigest()
+    assert [(table["month"], table["revision"]) for table in tables] == shown()
+    for table in tables:
+        data = (pack / f"data/tables/{table['month']}-r{table['revision']}.csv").read_bytes()
+        assert table["sha256"] == hashlib.sha256(data).hexdigest()
 
 
 # ---- words
@@ -786,18 +800,18 @@ def test_a_pack_may_be_without_a_form(
     out = tmp_path / "public"
     publish(published, config, out, None, quiet)
     assert again(published, out, config=config) == []
-    whole = {it.relative_to(pack).as_posix() for it in pack.rglob("*") if it.is_file()}
-    found = {it.relative_to(out).as_posix() for it in out.rglob("*") if it.is_file()}
-    assert sorted(name for name in whole - found if name.count("/") == 1) == left_out and found <= whole
+    whole = {path.relative_to(pack).as_posix() for path in pack.rglob("*") if path.is_file()}
+    posixes = {path.relative_to(out).as_posix() for path in out.rglob("*") if path.is_file()}
+    assert sorted(name for name in whole - posixes if name.count("/") == 1) == left_out and posixes <= whole
     ends = tuple(name.removeprefix("data/cpi") for name in left_out if "/cpi." in name)
     gone = (name for name in whole if name.count("/") > 1)
     is_xml_out = ".sdmx.xml" in ends
     is_csv_out = ".sdmx.csv" in ends
     described = {"data/slices/csv-metadata.json"} if is_csv_out else set()
-    assert {name for name in whole - found if name.count("/") > 1} == described | {
+    assert {name for name in whole - posixes if name.count("/") > 1} == described | {
         name for name in gone if name.endswith(ends) or is_xml_out and name.startswith("data/sdmx/")
     }
-    differing = {name for name in found if (out / name).read_bytes() != (pack / name).read_bytes()}
+    differing = {name for name in posixes if (out / name).read_bytes() != (pack / name).read_bytes()}
     describing = {"data/csv-metadata.json", "data/newest/csv-metadata.json"} if is_csv_out else set()
     assert differing == {"index.html", "data.html", "SHA256SUMS"} | describing
     for name in left_out:
@@ -812,7 +826,7 @@ def test_texts_that_xml_cannot_have_do_no_harm(tmp_path: Path) -> None:
     publish(published, CONFIG._replace(title="Prices \x07", reference=""), tmp_path / "public", None, quiet)
     data = tmp_path / "public/data"
     told = title.replace("\uffff", "\ufffd")
-    names = [it.text for it in ElementTree.parse(data / "structure.sdmx.xml").iter(COMMON + "Name")]
+    names = [element.text for element in ElementTree.parse(data / "structure.sdmx.xml").iter(COMMON + "Name")]
     assert told in names and "Prices \ufffd" in names
     assert openpyxl.load_workbook(data / "cpi.xlsx")["Index"]["B2"].value == told
     assert [row["title"] for row in rows_of(data / "cpi.csv")] == [title]
@@ -868,7 +882,7 @@ def test_what_is_not_there_is_one_line(cpi: Cpi, capsys: pytest.CaptureFixture[s
         assert main(["publish", *words]) == 1
         told = capsys.readouterr()
         assert because in told.err and told.err.count("\n") == 1 and told.out == ""
-    assert sorted(it.name for it in tmp_path.iterdir()) == ["no.json", "office.ini"]
+    assert sorted(path.name for path in tmp_path.iterdir()) == ["no.json", "office.ini"]
 
 
 def test_what_is_no_manifest_is_one_line(published: list[Published], tmp_path: Path) -> None:

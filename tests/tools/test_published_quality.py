@@ -31,7 +31,7 @@ FULL = Figures(9, 40, 30, 2, 6, 4, 40, 10)
 def counts(tables: Sequence[Published], **others: Figures | None) -> tuple[Cell, ...]:
     """Those of all tables with rows, but for others of the release 2025-02 by division, such as `d01`."""
     cells = list[Cell]()
-    for month, revision, _ in (it.listed for it in tables if it.table):
+    for month, revision, _ in (table.listed for table in tables if table.table):
         for division in ("00", "01", "07"):
             is_other = month == "2025-02" and f"d{division}" in others
             cells.append(Cell(month, revision, division, others[f"d{division}"] if is_other else FULL))

@@ -39,7 +39,7 @@ def put(published: list[Published], out: Path, config: Config = CONFIG, before: 
 
 def up_to(published: list[Published], last: str) -> list[Published]:
     """The tables of the months up to one."""
-    return [it for it in published if it.listed.month <= last]
+    return [publication for publication in published if publication.listed.month <= last]
 
 
 def with_sets(*specials: Special, reasons: tuple[Reason, ...] = ()) -> Config:
@@ -134,7 +134,7 @@ def test_the_earlier_figures_of_a_definition_come_from_the_pack_that_is_followed
     """A pack that --previous names has them, though none is replaced."""
     put(published, pack, with_sets(OTHER, FUELS, reasons=(WHY,)))
     put(published, tmp_path / "other", with_sets(OTHER, FUELS, reasons=(WHY,)), pack / "manifest.json")
-    wanted, found = (rows_of(it / "data/vintages.csv") for it in (pack, tmp_path / "other"))
+    wanted, found = (rows_of(path / "data/vintages.csv") for path in (pack, tmp_path / "other"))
     assert found == wanted and any(row["code"] == "CORE" for row in found)
 
 
@@ -154,7 +154,7 @@ def test_a_changed_title_a_new_set_a_next_month_and_a_revision_are_taken(
     """Table by table, each over the pack before, as the office published them; nothing is refused, and the last pack has
     the bytes of one that is made from nothing, but for what names the manifest before and the versions before."""
     out = tmp_path / "public"
-    order = sorted(published, key=lambda it: (it.listed.moment, it.listed.month))
+    order = sorted(published, key=lambda publication: (publication.listed.moment, publication.listed.month))
     for count in (16, 17, len(order)):
         put(order[:count], out)
     config = with_sets(CORE._replace(title="Core, once more"), FUELS, Special("FOOD", "Food", ("01",)))
@@ -177,9 +177,9 @@ def test_a_dated_definition_leaves_what_was_published(published: list[Published]
     put(published, pack.parent / "earlier", with_sets(*DATED))
     now = rows_of(pack.parent / "earlier/node/CORE.csv")
     names = [name for name in now[0] if not name.startswith("contribution")]
-    assert [it for it in now if it["month"] < "2027"] == [it for it in then if it["month"] < "2027"]
-    assert [it["break"] for it in now if it["month"] >= "2027"] == ["1", "0", "0", "0", "0"] and names
-    assert next(it for it in now if it["month"] == "2027-01")["base"] == then[0]["base"]
+    assert [row for row in now if row["month"] < "2027"] == [row for row in then if row["month"] < "2027"]
+    assert [row["break"] for row in now if row["month"] >= "2027"] == ["1", "0", "0", "0", "0"] and names
+    assert next(row for row in now if row["month"] == "2027-01")["base"] == then[0]["base"]
     assert "from January 2027 on, it contains different elementary aggregates" in words_of(
         pack.parent / "earlier/node/CORE.html"
     )
@@ -199,7 +199,7 @@ def test_a_set_that_ends_keeps_its_page(published: list[Published], tmp_path: Pa
     assert now == then and now[-1]["month"] == "2026-12"
     told = words_of(out / "node/CORE.html")
     assert "It contains all items , without transport ." in told and "December 2026" in told
-    assert {it["code"] for it in rows_of(out / "data/aggregates.csv") if it["month"] > "2026-12"} == {"FUELS"}
+    assert {row["code"] for row in rows_of(out / "data/aggregates.csv") if row["month"] > "2026-12"} == {"FUELS"}
     put(published, out, with_sets(CORE, Special("CORE", "Core", (), (), "2027-01"), FUELS))
 
 
@@ -239,9 +239,9 @@ def test_with_a_reason_the_earlier_figures_stay_beside_the_new_ones(
     then, config = rows_of(pack / "node/CORE.csv"), with_sets(OTHER, FUELS, reasons=(WHY,))
     put(published, pack, config)
     now = {row["month"]: row for row in rows_of(pack / "node/CORE.csv")}
-    found = [row for row in rows_of(pack / "data/vintages.csv") if row["code"] == "CORE"]
+    rows = [row for row in rows_of(pack / "data/vintages.csv") if row["code"] == "CORE"]
     for row in then:
-        lines = [it for it in found if it["month"] == row["month"]]
+        lines = [it for it in rows if it["month"] == row["month"]]
         assert lines[-2]["chained"] == row["chained"] and lines[-1]["chained"] == now[row["month"]]["chained"]
         assert (lines[-2]["published"], lines[-1]["published"]) == (row["published"], "2020-09-13T12:26:40Z")
         assert len(lines) == (3 if row["month"] == REVISED else 2)
@@ -256,8 +256,8 @@ def test_with_a_reason_the_earlier_figures_stay_beside_the_new_ones(
         put(published, pack, with_sets(FUELS._replace(id="CORE"), FUELS, reasons=(WHY,)))
     third = (WHY, Reason("CORE", 3, "Once more", ADDED + 1))
     put(published, pack, with_sets(FUELS._replace(id="CORE"), FUELS, reasons=third))
-    found = [row for row in rows_of(pack / "data/vintages.csv") if (row["code"], row["month"]) == ("CORE", "2026-02")]
-    assert len(found) == 3 and len({row["chained"] for row in found}) == 3
+    rows = [row for row in rows_of(pack / "data/vintages.csv") if (row["code"], row["month"]) == ("CORE", "2026-02")]
+    assert len(rows) == 3 and len({row["chained"] for row in rows}) == 3
 
 
 def test_a_reason_of_a_set_needs_the_set_the_time_and_the_one_before(published: list[Published], pack: Path) -> None:
@@ -277,12 +277,16 @@ def test_a_reason_of_a_set_needs_the_set_the_time_and_the_one_before(published: 
 
 def test_a_revised_month_has_its_first_figure(published: list[Published], pack: Path, tmp_path: Path) -> None:
     """As it was in a pack of the tables that were out then."""
-    out = [it for it in published if it.listed.month < REVISED or it.listed[:2] == (REVISED, 1)]
+    out = [
+        publication
+        for publication in published
+        if publication.listed.month < REVISED or publication.listed[:2] == (REVISED, 1)
+    ]
     put(out, tmp_path / "then")
-    found = [row for row in rows_of(pack / "data/vintages.csv") if row["code"] == "CORE"]
-    assert [row["month"] for row in found] == [REVISED, REVISED] and [row["revision"] for row in found] == ["1", "2"]
-    assert found[0]["chained"] == level(tmp_path / "then", "CORE", REVISED) != found[1]["chained"]
-    assert found[1]["chained"] == level(pack, "CORE", REVISED)
+    rows = [row for row in rows_of(pack / "data/vintages.csv") if row["code"] == "CORE"]
+    assert [row["month"] for row in rows] == [REVISED, REVISED] and [row["revision"] for row in rows] == ["1", "2"]
+    assert rows[0]["chained"] == level(tmp_path / "then", "CORE", REVISED) != rows[1]["chained"]
+    assert rows[1]["chained"] == level(pack, "CORE", REVISED)
 
 
 def test_a_december_that_comes_out_late_changes_the_sets_of_january() -> None:
@@ -291,18 +295,18 @@ def test_a_december_that_comes_out_late_changes_the_sets_of_january() -> None:
         Published(it.listed, b"".join(sorted((it.table + b"".join(map(below, parts(it)))).splitlines(keepends=True))))
         for it in over_another_december()
     ]
-    late = next(it for it in tables if it.listed.month == "2026-12")
+    late = next(publication for publication in tables if publication.listed.month == "2026-12")
     table = late.table.replace(b",104.000000,104.000000,", b",106.000000,106.000000,")
-    last = max(it.listed.moment for it in tables) + 1
+    last = max(publication.listed.moment for publication in tables) + 1
     series = series_of([*tables, Published(Listed("2026-12", 2, last), table)], [Special("EVERY", "All", ("00",))])
     january = vintages_of(series)["EVERY"]["2027-01"]
     assert [it.row.chained for it in january] == [109_200_000, series.specials["EVERY"].rows["2027-01"].chained]
     assert january[0].row.chained != january[1].row.chained and january[1].moment == last
 
 
-def parts(it: Published) -> list[bytes]:
+def parts(publication: Published) -> list[bytes]:
     """The rows of divisions."""
-    return [line for line in it.table.splitlines() if line[:2] != b"00"]
+    return [line for line in publication.table.splitlines() if line[:2] != b"00"]
 
 
 def test_a_file_of_a_set_that_cant_be_read_is_one_line(published: list[Published], pack: Path) -> None:

@@ -54,14 +54,16 @@ def test_a_file_without_a_mandatory_keyword_is_refused(text: str, name: str) -> 
     statements = statements_of(text)
     assert statements_of(joined(statements)) == statements
     places = [
-        at for at, it in enumerate(statements) if keyword_of(it) == name and (name != "UNITS" or "(" not in head(it))
+        at
+        for at, statement in enumerate(statements)
+        if keyword_of(statement) == name and (name != "UNITS" or "(" not in head(statement))
     ]
     assert len(places) in (1, 2) if name != "VALUES" else len(places) == 6
     of_a_language = [at for at in places if "[fr]" in head(statements[at])]
     for left_out in (set(places) - {*of_a_language}, {*of_a_language}):
         if left_out:
             with pytest.raises(NotPx, match=f"^{name}: "):
-                read_strictly(joined(it for at, it in enumerate(statements) if at not in left_out))
+                read_strictly(joined(statement for at, statement in enumerate(statements) if at not in left_out))
 
 
 def head(statement: str) -> str:

@@ -67,7 +67,7 @@ def test_no_group_of_few_outlets_can_be_computed(least: int) -> None:
     for _ in range(700):
         divisions = [f"{number:02}" for number in range(1, drawn.randint(2, 7))]
         numbers = range(drawn.randint(1, 12))
-        outlets = {it: frozenset(drawn.sample(numbers, drawn.randint(0, len(numbers)))) for it in divisions}
+        outlets = {division: frozenset(drawn.sample(numbers, drawn.randint(0, len(numbers)))) for division in divisions}
         choice = choice_of(outlets, least, ())
         assert not exposed(sorted(names_of(choice)), outlets, least), outlets
         if all(len(own) >= least for own in outlets.values()):
@@ -95,7 +95,7 @@ Outlets = dict[str, frozenset[int]]
 def surveys(drawn: random.Random, count: int) -> Iterator[Outlets]:
     """Those of releases one after the other: outlets come and go, and now and then a whole division."""
     numbers, all_divisions = range(drawn.randint(3, 12)), [f"{number:02}" for number in range(1, drawn.randint(3, 7))]
-    outlets = {it: {*drawn.sample(numbers, drawn.randint(1, len(numbers)))} for it in all_divisions}
+    outlets = {division: {*drawn.sample(numbers, drawn.randint(1, len(numbers)))} for division in all_divisions}
     absent = set[str]()
     for _ in range(count):
         for own in outlets.values():
@@ -401,9 +401,9 @@ class Pack(NamedTuple):
     def values(self, indicator: str, *by: str) -> dict[tuple[str, ...], str]:
         """The values of an indicator by some columns, each once."""
         own = [row for row in self.rows if row["indicator"] == indicator]
-        found = {tuple(row[name] for name in by): row["value"] for row in own}
-        assert len(found) == len(own)
-        return found
+        values = {tuple(row[name] for name in by): row["value"] for row in own}
+        assert len(values) == len(own)
+        return values
 
 
 def packed(published: list[Published], config: Config, folder: Path) -> Pack:
@@ -477,7 +477,7 @@ def test_time_lags_are_by_the_clock_of_the_office(published: list[Published], tm
         assert lags[-1] == wanted
     assert lags[0] != lags[1]
     page = " ".join(Texts.of_page(tmp_path / "Asia-Tokyo/quality.html").of("p"))
-    days = [int(it) for (month, revision), it in lags[0].items() if revision == "1"]
+    days = [int(lag) for (month, revision), lag in lags[0].items() if revision == "1"]
     assert f"The first table of May 2027 was published {-days[-1]:,} days before the month ended." in page
     mean = Fraction(sum(days[-12:]), 12)
     assert f"The mean of the last 12 first releases is {text(mean, 1)} days.".replace("-", "\u2212") in page
@@ -493,7 +493,9 @@ def test_delays_are_against_what_was_announced(published: list[Published], tmp_p
     planned = (Planned(*early, out[early] + 60), Planned(*moved, out[moved], moved=out[moved] - 7200))
     folder = tmp_path / "public"
     publish([each for each in published if each.listed.month < "2026-06"], CONFIG, folder, None, quiet)
-    (folder / "data/announced.json").write_text(json.dumps({"announced": [it._asdict() for it in announced]}))
+    (folder / "data/announced.json").write_text(
+        json.dumps({"announced": [announcement._asdict() for announcement in announced]})
+    )
     pack = packed(published, CONFIG._replace(planned=planned), folder)
     assert pack.values("delay", "month", "revision") == {
         ("2026-05", "1"): "-60", ("2026-06", "1"): "60", ("2026-07", "1"): "0", ("2026-08", "1"): "7200",
@@ -551,7 +553,7 @@ def test_the_json_has_the_same_figures(pack: Pack) -> None:
     assert (book["structure"], book["least_outlets"]) == ("SIMS 2.0", 5)
     rows = [{"section": part["section"], **row} for part in book["sections"] for row in part["figures"]]
     assert rows == [{name: cell for name, cell in row.items() if cell} for row in pack.rows]
-    numbers = [[int(it) for it in part["section"].split(".")[1:]] for part in book["sections"]]
+    numbers = [[int(word) for word in part["section"].split(".")[1:]] for part in book["sections"]]
     assert numbers == sorted(numbers)
 
 
@@ -574,8 +576,8 @@ def test_an_office_without_it_publishes_what_it_did(published: list[Published], 
     plain, with_quality = tmp_path / "plain", tmp_path / "with"
     publish(published, CONFIG._replace(has_quality=False), plain, None, quiet)
     publish(published, CONFIG, with_quality, None, quiet)
-    names = {it.relative_to(plain).as_posix() for it in plain.rglob("*") if it.is_file()}
-    more = {it.relative_to(with_quality).as_posix() for it in with_quality.rglob("*") if it.is_file()}
+    names = {path.relative_to(plain).as_posix() for path in plain.rglob("*") if path.is_file()}
+    more = {path.relative_to(with_quality).as_posix() for path in with_quality.rglob("*") if path.is_file()}
     assert more - names == {"quality.html", "data/quality.csv", "data/quality.json"} and not names - more
     differing = {name for name in names if (plain / name).read_bytes() != (with_quality / name).read_bytes()}
     described = {"data/csv-metadata.json", "data.html"}

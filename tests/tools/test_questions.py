@@ -108,7 +108,7 @@ def asked_of(application: Application) -> list[Question]:
 
 def steps(application: Application) -> list[tuple[str, str]]:
     """The steps with questions in the log: who, and what."""
-    return [(it.by, it.text) for it in application.desk.log.entries if "question" in it.text]
+    return [(entry.by, entry.text) for entry in application.desk.log.entries if "question" in entry.text]
 
 
 # ---- there and back
@@ -163,7 +163,7 @@ def test_a_price_that_is_withdrawn_says_why(application: Application, ada: Perso
     assert beno.answer(1, what="corrected", receipt=4).json == {"answer": 1}
     words = ada.words(LIST)
     assert "corrected to gone (receipt 4)." in words, words
-    assert [it.answers[0].said[2:4] for it in asked_of(application)] == [("gone", 0)]
+    assert [question.answers[0].said[2:4] for question in asked_of(application)] == [("gone", 0)]
 
 
 def test_an_answer_is_kept_once_however_often_it_is_sent(application: Application, ada: Person, beno: Asked) -> None:
@@ -187,19 +187,19 @@ def test_nobody_reads_the_question_of_another_collector(application: Application
 
     def answers() -> list[list[tuple[int, bytes]]]:
         asked = [
-            [it.questions(), it.answer(1, what="text", text="Mine"), it.answer(2, what="text", text="Mine")]
-            for it in others
+            [query.questions(), query.answer(1, what="text", text="Mine"), query.answer(2, what="text", text="Mine")]
+            for query in others
         ]
         return [[(it.status_code, it.data) for it in each] for each in asked]
 
     before = answers()
-    assert [it[0][0] for it in before] == [200, 401, 403, 401] and before[0][0][1] == b'{"questions":[]}\n'
+    assert [answer[0][0] for answer in before] == [200, 401, 403, 401] and before[0][0][1] == b'{"questions":[]}\n'
     assert before[0][1] == before[0][2] and before[0][1][0] == 404
     asks(ada)
     assert answers() == before
     assert beno.answer(1, what="confirmed", receipt=3, text="Weighed it.").status_code == 200
     assert answers() == before
-    assert [it.answers[0].said.text for it in asked_of(application)] == ["Weighed it."]
+    assert [question.answers[0].said.text for question in asked_of(application)] == ["Weighed it."]
     assert beno.answer(1, "2026-01", what="text", text="Another month's").status_code == 404
     assert ada.get("/notes/questions").status_code == 401
     stranger = application.app.test_client()
@@ -223,7 +223,7 @@ def test_keys_are_written_nowhere_and_the_office_has_nothing_of_it(
 ) -> None:
     asks(ada)
     assert beno.answer(1, what="text", text="Weighed it.").status_code == 200
-    files = {it: it.read_bytes() for it in tmp_path.rglob("*") if it.is_file()}
+    files = {path: path.read_bytes() for path in tmp_path.rglob("*") if path.is_file()}
     in_room = {it: data for it, data in files.items() if (tmp_path / "room") in it.parents}
     assert [it.name for it, data in files.items() if b"Weighed it." in data] == ["field-questions.db"]
     assert not any(BENO.encode() in data for data in in_room.values()) and BENO not in "".join(capfd.readouterr())
@@ -242,10 +242,10 @@ def test_who_was_quicker_is_told_and_what_was_typed_stays(application: Applicati
     assert re.search(
         f"Ada asked this in the meantime [(][^:]+:[0-9]+[^:]*[)]: {re.escape(STILL)}", words_of(answer.text)
     )
-    assert [it.text for it in asked_of(application)] == [STILL]
+    assert [question.text for question in asked_of(application)] == [STILL]
     # (the page that answered shows it: its form asks anew)
     assert asks(ben, "Which brand?").status_code == 303
-    assert [(it.text, it.state, it.next) for it in asked_of(application)] == [
+    assert [(question.text, question.state, question.next) for question in asked_of(application)] == [
         (STILL, WITHDRAWN, 2),
         ("Which brand?", OPEN, 0),
     ]
@@ -275,7 +275,7 @@ def test_a_question_that_was_answered_meanwhile_isn_t_withdrawn(
     for form in forms:
         answer = ada.give(form)
         assert answer.status_code == 409 and "Collector 8 answered this in the meantime" in words_of(answer.text)
-    assert [it.state for it in asked_of(application)] == [ANSWERED]
+    assert [question.state for question in asked_of(application)] == [ANSWERED]
 
 
 def test_the_desk_removes_one_for_good(application: Application, ada: Person, beno: Asked, tmp_path: Path) -> None:
@@ -332,7 +332,7 @@ def test_a_log_that_is_full_lets_nothing_be_asked_or_answered(
     assert answer.status_code == 503 and 'value="Which brand?"' in answer.text
     assert beno.answer(1, what="text", text="No").status_code == 503
     assert ada.fill(LOOKS, "/withdraw").status_code == 503 and ada.fill(LIST, "/remove").status_code == 503
-    assert [(it.text, it.state) for it in asked_of(application)] == [(STILL, OPEN)]
+    assert [(question.text, question.state) for question in asked_of(application)] == [(STILL, OPEN)]
 
 
 # ---- what is taken

@@ -103,9 +103,11 @@ def test_a_reason_is_on_the_pages_and_in_the_feed(published: list[Published], tm
         assert "The office added this on 10 February 1970, 09:00 UTC : Wheat too." in words_of(page)
         assert "<b>&#34;" not in page.read_text(encoding="utf-8") and "&lt;b&gt;" in page.read_text(encoding="utf-8")
     assert WHY not in words_of(site / f"release/{REVISED}-r1.html")
-    (entry,) = (it for it in feedparser.parse((site / "feed.xml").read_bytes()).entries if it.id.endswith("-r2.html"))
+    (entry,) = (
+        entry for entry in feedparser.parse((site / "feed.xml").read_bytes()).entries if entry.id.endswith("-r2.html")
+    )
     assert entry.summary.endswith("Why the office revised this month: Wheat too.") and "Rice: 1 kg" in entry.summary
-    (of,) = (it.listed for it in published if it.listed[:2] == (REVISED, 2))
+    (of,) = (publication.listed for publication in published if publication.listed[:2] == (REVISED, 2))
     assert calendar.timegm(entry.published_parsed) == of.moment
     assert calendar.timegm(entry.updated_parsed) == ADDED > of.moment
     row = f"<loc>{ADDRESS}release/{REVISED}-r2.html</loc><lastmod>1970-02-10T09:00:00Z</lastmod>"
@@ -137,18 +139,18 @@ def test_a_reason_waits_for_its_revision(published: list[Published], tmp_path: P
     publish(
         published, config._replace(planned=(Planned(HIDDEN_REVISION, 2, 9_000_000_001),)), tmp_path / "p", None, quiet
     )
-    files = [it for it in (tmp_path / "p").rglob("*") if it.is_file()]
-    assert files and not [it for it in files if b"Under-embargo" in it.read_bytes()]
+    files = [path for path in (tmp_path / "p").rglob("*") if path.is_file()]
+    assert files and not [file for file in files if b"Under-embargo" in file.read_bytes()]
 
 
 def test_a_reason_whose_time_is_to_come_waits_for_its_revision(published: list[Published], tmp_path: Path) -> None:
     """Nothing that is out says which revision comes next, so the time alone does."""
-    latest = max(it.listed.moment for it in published)
+    latest = max(publication.listed.moment for publication in published)
     with pytest.raises(BadReasons, match="which is neither out nor announced"):
         publish(published, with_reasons(Reason(REVISED, 3, "Later", latest)), tmp_path / "p", None, quiet)
     publish(published, with_reasons(Reason(REVISED, 3, "Later-on", latest + 1)), tmp_path / "p", None, quiet)
-    files = [it for it in (tmp_path / "p").rglob("*") if it.is_file()]
-    assert files and not [it for it in files if b"Later-on" in it.read_bytes()]
+    files = [path for path in (tmp_path / "p").rglob("*") if path.is_file()]
+    assert files and not [file for file in files if b"Later-on" in file.read_bytes()]
 
 
 # ---- in the languages of the pages
@@ -176,7 +178,7 @@ def test_each_page_says_it_in_its_own_language(published: list[Published], tmp_p
             assert said in words_of(site / name) and other not in words_of(site / name)
             assert "Wheat too." in words_of(site / name)
         feed = feedparser.parse((site / f"{folder}feed.xml").read_bytes())
-        (entry,) = (it for it in feed.entries if it.id.endswith("-r2.html"))
+        (entry,) = (entry for entry in feed.entries if entry.id.endswith("-r2.html"))
         assert said in html.unescape(entry.summary) and other not in html.unescape(entry.summary)
     head, first, second = csv.reader((site / "data" / REASONS).read_text(encoding="utf-8").splitlines())
     assert head == ["month", "revision", "added", "reason", "reason-fr"]
@@ -210,16 +212,16 @@ def test_what_was_said_stays(published: list[Published], tmp_path: Path) -> None
     site, first = tmp_path / "public", Reason(REVISED, 2, WHY)
     publish(published, with_reasons(first), site, None, quiet)
     page = site / f"release/{REVISED}-r2.html"
-    then = {it.name: it.read_bytes() for it in (site / "release").iterdir()}
+    then = {path.name: path.read_bytes() for path in (site / "release").iterdir()}
     for reasons in ((), (first._replace(text="Another"),), (first._replace(added=ADDED),)):
         with pytest.raises(BadReasons, match=f"the reason of {REVISED}, revision 2, was published as 'Rice: 1 kg"):
             publish(published, with_reasons(*reasons), site, None, quiet)
         assert page.read_bytes() == then[page.name]
     publish(published, with_reasons(first, Reason(REVISED, 2, "Wheat too.", ADDED)), site, None, quiet)
-    now = {it.name: it.read_bytes() for it in (site / "release").iterdir()}
+    now = {path.name: path.read_bytes() for path in (site / "release").iterdir()}
     assert {name for name in now if now[name] != then[name]} == {page.name}
-    added = [it for it in now[page.name].decode().splitlines() if it not in then[page.name].decode().splitlines()]
-    assert [re.sub("<[^>]*>", "", it) for it in added] == [
+    added = [line for line in now[page.name].decode().splitlines() if line not in then[page.name].decode().splitlines()]
+    assert [re.sub("<[^>]*>", "", line) for line in added] == [
         "The office added this on 10 February 1970, 09:00 UTC: Wheat too."
     ]
 

@@ -88,7 +88,7 @@ def make_crate(texts: Mapping[str, str]) -> Crate:
     """A crate `low` with these texts."""
     homes = {"Rows": "rows"}
     code = [(path, text) for path, text in texts.items() if path.endswith(".rt")]
-    return Crate("low", dict(texts), [it for path, text in code for it in list_items(path, text, homes)])
+    return Crate("low", dict(texts), [item for path, text in code for item in list_items(path, text, homes)])
 
 
 @pytest.fixture
@@ -111,7 +111,7 @@ def test_a_module_is_named_by_its_file() -> None:
 
 
 def test_functions_constants_and_macros_have_names_and_lines(low: Crate) -> None:
-    assert [(it.kind, it.name, it.first, it.last) for it in low.items if it.file == "src/rows.rt"] == [
+    assert [(item.kind, item.name, item.first, item.last) for item in low.items if item.file == "src/rows.rt"] == [
         ("const", "rows::MOST", 2, 2),
         ("macro_rules!", "rows::twice", 4, 8),
         ("fn", "rows::Rows::len", 16, 20),
@@ -134,11 +134,11 @@ def test_functions_constants_and_macros_have_names_and_lines(low: Crate) -> None
 )
 def test_a_method_is_named_by_the_type_and_the_trait_of_its_block(block: str, name: str) -> None:
     text = f"{block}\n    fn see(&self) {{}}\n}}\n"
-    assert [it.name for it in list_items("src/sight.rt", text, {})] == [name]
+    assert [item.name for item in list_items("src/sight.rt", text, {})] == [name]
 
 
 def test_a_header_ends_where_the_body_begins(low: Crate) -> None:
-    headers = {it.word(): len(it.header()) for it in low.items if it.kind == "fn"}
+    headers = {item.word(): len(item.header()) for item in low.items if item.kind == "fn"}
     assert headers == {"len": 3, "is_full": 1, "forget": 1, "clone": 1, "count": 5, "count_both": 1}
 
 
@@ -190,7 +190,7 @@ def test_edits_stand_right_in_their_folder(tmp_path: Path, low: Crate) -> None:
         (tmp_path / name).write_text("file: src/rows.rt\nold: = 2;\nnew: = 3;\n")
     good, bad = list_edits(tmp_path)
     assert ([it.name for it in good], [it.name for it in bad]) == (["a.edit", "b.edit"], ["a.txt", "d.edit"])
-    assert [(it.name, bool(it.fault)) for it in read_edits(tmp_path, low)] == [
+    assert [(edit.name, bool(edit.fault)) for edit in read_edits(tmp_path, low)] == [
         ("a", False), ("b", False), ("a.txt", True), ("c/d.edit", True),
     ]  # fmt: skip
 
@@ -288,7 +288,7 @@ def test_a_stub_has_the_contract_and_the_lines_of_its_function(low: Crate) -> No
 )
 def test_a_function_without_a_body_or_a_proof_of_its_own_is_no_stub(function: str) -> None:
     crate = make_crate({"src/lib.rt": function})
-    assert [it.kind for it in crate.items] == ["fn"]
+    assert [item.kind for item in crate.items] == ["fn"]
     assert not stub_others(crate, set(), dict(crate.texts))
 
 
@@ -431,7 +431,7 @@ def test_what_was_refused_is_kept_by_the_edit_and_the_sum(tmp_path: Path, low: C
     assert cache.find(edit) == "rows::count, ≡"
     assert Cache(cache.folder, "b").find(edit) is None
     assert cache.find(make_edit(low, "    rows.len()", "    1")) is None
-    assert [it.name for it in cache.folder.iterdir()] == [cache.key(edit)]
+    assert [path.name for path in cache.folder.iterdir()] == [cache.key(edit)]
 
 
 def test_an_entry_that_is_damaged_counts_for_nothing(tmp_path: Path, low: Crate) -> None:
@@ -506,11 +506,11 @@ class Clone:
     def start(self, *words: str, kit: Path | None = None) -> subprocess.Popen[str]:
         room = self.top / "room"
         room.mkdir(exist_ok=True)
-        found = {**os.environ, "XDG_CACHE_HOME": f"{self.top}/kept", "TMPDIR": str(room)}
+        start = {**os.environ, "XDG_CACHE_HOME": f"{self.top}/kept", "TMPDIR": str(room)}
         if kit:
-            found["PATH"] = f"{kit}/bin:{os.environ['PATH']}"
+            start["PATH"] = f"{kit}/bin:{os.environ['PATH']}"
         call = [sys.executable, str(self.top / "tools/refused"), *words]
-        return subprocess.Popen(call, env=found, stdout=subprocess.PIPE, stderr=subprocess.PIPE, text=True)
+        return subprocess.Popen(call, env=start, stdout=subprocess.PIPE, stderr=subprocess.PIPE, text=True)
 
     def run(self, *words: str, kit: Path | None = None) -> Ran:
         running = self.start(*words, kit=kit)
@@ -710,11 +710,11 @@ def list_calls(text: str) -> set[str]:
 def test_what_an_edit_asks_of_a_sight_and_the_compiler_refuses_is_asked_of_a_book_elsewhere() -> None:
     """A method that nothing has would be refused too, and show nothing."""
     crate = ROOT / "crates/cpi_office"
-    edits = [it for it in read_edits(crate, read_crate(crate)) if it.code == "unknown-method"]
-    calls = {it.name: {x for at in it.pairs for x in list_calls(at.new) - list_calls(at.old)} for it in edits}
+    edits = [edit for edit in read_edits(crate, read_crate(crate)) if edit.code == "unknown-method"]
+    calls = {edit.name: {x for at in edit.pairs for x in list_calls(at.new) - list_calls(at.old)} for edit in edits}
     books, sights = list_methods("cpi_store/src/book.rt", "Book"), list_methods("cpi_office/src/sight.rt", "Sight")
     assert len(calls) >= 5 and all(calls.values())
-    assert {name: found for name, found in calls.items() if not found <= books - sights} == {}
+    assert {name: call for name, call in calls.items() if not call <= books - sights} == {}
 
 
 def test_a_run_that_is_killed_is_tried_once_more(clone: Clone, stand_in: StandIn) -> None:
@@ -1017,7 +1017,9 @@ def test_the_prover_refuses_what_it_must(tmp_path: Path, sample: Sample) -> None
     assert said["next-is-the-one-after"] == "refused: next, src/lib.rt:49, returns"
     assert said["quadruple-is-double"] == "refused: quadruple, src/lib.rt:18, returns"
     still = "NOT REFUSED: the crate is still proved with this edit"
-    assert {name for name, text in said.items() if text == still} == {it for it in SMALL_EDITS if "harmless" in it}
+    assert {name for name, text in said.items() if text == still} == {
+        edit for edit in SMALL_EDITS if "harmless" in edit
+    }
     assert said["bad-text"].startswith("BAD EDIT: an 'old:' text is in src/lib.rt 0 times")
     assert said["bad-name"].startswith("BAD EDIT: it can't be read, so no contract was tried: src/lib.rt:45:")
     assert (ran.status, ran.out[-1]) == (1, "3 passed, 5 failed")

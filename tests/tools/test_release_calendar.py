@@ -201,8 +201,8 @@ def test_other_programs_read_the_calendar(site: Path) -> None:
     lines = data.split(b"\r\n")
     assert lines[-1] == b"" and b"\n" not in data.replace(b"\r\n", b"") and max(map(len, lines)) <= 75
     events = icalendar.Calendar.from_ical(data).walk("VEVENT")
-    assert len({str(it["UID"]) for it in events}) == len(events) == 12 + 4
-    by_title = {str(it["SUMMARY"]): it for it in events}
+    assert len({str(event["UID"]) for event in events}) == len(events) == 12 + 4
+    by_title = {str(event["SUMMARY"]): event for event in events}
     coming = by_title["Consumer price index, January 2027"]
     assert coming.decoded("DTSTART") == datetime.datetime(2027, 1, 28, 8, 30, tzinfo=datetime.timezone.utc)
     assert "Consumer price index, December 2026, revision 2" in by_title and "DESCRIPTION" not in coming

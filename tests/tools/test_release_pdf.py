@@ -36,7 +36,7 @@ NAME = "2027-01-r1"
 def words_in(pdf: bytes) -> list[str]:
     """The text of each page, whose blanks are single ones."""
     ran = subprocess.run(["pdftotext", "-layout", "-", "-"], input=pdf, capture_output=True, check=True)
-    return [" ".join(it.split()) for it in ran.stdout.decode().split("\f")[:-1]]
+    return [" ".join(word.split()) for word in ran.stdout.decode().split("\f")[:-1]]
 
 
 def placed(tag: str, mark: str = "", published: Sequence[Published] = (), config: Config = CONFIG) -> OnPaper:
@@ -45,8 +45,8 @@ def placed(tag: str, mark: str = "", published: Sequence[Published] = (), config
 
 
 def pdf_in(tag: str, mark: str = "") -> bytes:
-    found = placed(tag, mark)
-    return found.paper.pdf(found.release)
+    pdf = placed(tag, mark)
+    return pdf.paper.pdf(pdf.release)
 
 
 @pytest.fixture(scope="module")
@@ -199,7 +199,7 @@ def test_a_pack_has_the_pdf_of_each_release_and_takes_it_over(tmp_path: Path, mo
         made.append(counted.count)
     assert made == [2, 4, 4, 8]
     names = [f"{folder}release/2026-0{month}-r1" for folder in ("", "fr/") for month in (1, 2)]
-    assert sorted(str(it.relative_to(out).with_suffix("")) for it in out.rglob("*.pdf")) == sorted(names)
+    assert sorted(str(path.relative_to(out).with_suffix("")) for path in out.rglob("*.pdf")) == sorted(names)
     sums = (out / "SHA256SUMS").read_text(encoding="utf-8")
     for name in names:
         assert f'<a href="{Path(name).name}.pdf">' in (out / f"{name}.html").read_text(encoding="utf-8")
@@ -310,7 +310,7 @@ def test_a_draft_is_marked_on_each_page(
     assert (ran.status, ran.out) == (0, f"{out}: draft of {month}, revision 1, 2 pages\n"), ran.err
     pages = words_in(out.read_bytes())
     mark = f"Draft, under embargo until 14 March 2255, {moment}"
-    assert headline in pages[0] and [it.count(mark) for it in pages] == [2, 2]
+    assert headline in pages[0] and [page.count(mark) for page in pages] == [2, 2]
     assert "Published" not in pages[0]
     assert stat.S_IMODE(out.stat().st_mode) == 0o600 and office.read_bytes() == before
 

@@ -47,9 +47,9 @@ def site(published: list[Published], tmp_path_factory: pytest.TempPathFactory) -
 
 def main_of(page: Path) -> str:
     """What is on a page between its head and its foot."""
-    found = re.search(r"<main.*</main>", page.read_text(encoding="utf-8"), flags=re.S)
-    assert found
-    return found[0]
+    match = re.search(r"<main.*</main>", page.read_text(encoding="utf-8"), flags=re.S)
+    assert match
+    return match[0]
 
 
 # ---- what a page says
@@ -91,10 +91,10 @@ def told_then(page: Path) -> dict[str, object]:
     text = page.read_text(encoding="utf-8").replace('href="../', 'href="')
     text = re.sub(r'<p class="take">.*?</p>', "", text, flags=re.S)
     patterns = {"h1": r"<h1>.*?</h1>", "lead": r'<p class="lead">.*?</p>', "cards": r'<dl class="cards">.*?</dl>'}
-    found: dict[str, object] = {name: re.findall(form, text, flags=re.S)[0] for name, form in patterns.items()}
-    found["given"] = re.findall(r"<h2>Contributions</h2>(.*?)<h2", text, flags=re.S)[0].strip()
-    found["notes"] = re.findall(r'<p class="note">[^<]* was revised.*?</p>', text)
-    return found
+    elements: dict[str, object] = {name: re.findall(form, text, flags=re.S)[0] for name, form in patterns.items()}
+    elements["given"] = re.findall(r"<h2>Contributions</h2>(.*?)<h2", text, flags=re.S)[0].strip()
+    elements["notes"] = re.findall(r'<p class="note">[^<]* was revised.*?</p>', text)
+    return elements
 
 
 @pytest.mark.sampled(3)
@@ -103,8 +103,12 @@ def test_a_page_says_what_the_first_page_said_on_its_day(
     published: list[Published], site: Path, tmp_path: Path, month: str
 ) -> None:
     """The first page of the pack that was made on the day of the release is the other way to the same figures."""
-    (of,) = (it for it in published if it.listed[:2] == (month, 1))
-    then = made([it for it in published if it.listed.moment <= of.listed.moment], tmp_path / "then", reference(month))
+    (of,) = (publication for publication in published if publication.listed[:2] == (month, 1))
+    then = made(
+        [publication for publication in published if publication.listed.moment <= of.listed.moment],
+        tmp_path / "then",
+        reference(month),
+    )
     assert told_then(site / f"release/{month}-r1.html") == told_then(then / "index.html")
 
 
@@ -115,7 +119,7 @@ def reference(month: str) -> Config:
 
 def levels_in(published: list[Published], month: str, revision: int) -> dict[str, Decimal]:
     """The chained levels of a table as they are printed, by code."""
-    (table,) = (it.table for it in published if it.listed[:2] == (month, revision))
+    (table,) = (publication.table for publication in published if publication.listed[:2] == (month, revision))
     return {row[0]: Decimal(row[3]) for row in csv.reader(table.decode().splitlines())}
 
 
@@ -175,7 +179,7 @@ def test_a_release_says_whether_its_month_was_provisional_on_its_day(
     config = CONFIG._replace(provisional=3, all_provisional=(Dated("0"), Dated("2", REVISED), Dated("3", "2026-04")))
     site = made(published, tmp_path / "public", config)
     then = "Provisional: on that day the office could still revise the last"
-    pages = {it.name: it.read_text(encoding="utf-8") for it in (site / "release").glob("*.html")}
+    pages = {path.name: path.read_text(encoding="utf-8") for path in (site / "release").glob("*.html")}
     for name, page in pages.items():
         months = 0 if name < REVISED else 2 if name.startswith(REVISED) else 3
         assert (
@@ -184,7 +188,9 @@ def test_a_release_says_whether_its_month_was_provisional_on_its_day(
             == (months > 0)
         )
     entries = (site / "feed.xml").read_text(encoding="utf-8")
-    assert entries.count(f"{then} 3 months.") + entries.count(f"{then} 2 months.") == sum(it >= REVISED for it in pages)
+    assert entries.count(f"{then} 3 months.") + entries.count(f"{then} 2 months.") == sum(
+        page >= REVISED for page in pages
+    )
     # (the list says what may change now: the last three months)
     listed = words_of(site / "releases.html")
     assert re.findall(r"(\w+ \d+) \(provisional\)", listed) == ["May 2027", "April 2027", "March 2027"]
@@ -192,14 +198,14 @@ def test_a_release_says_whether_its_month_was_provisional_on_its_day(
 
 def test_a_late_revision_is_of_a_month_that_is_final() -> None:
     """February 2026 is revised after April is out: of two provisional months it is none."""
-    tables = [it for it in two_years() if it.listed.month <= "2026-04"]
-    february = next(it for it in tables if it.listed.month == "2026-02")
+    tables = [year for year in two_years() if year.listed.month <= "2026-04"]
+    february = next(table for table in tables if table.listed.month == "2026-02")
     late = february._replace(listed=Listed("2026-02", 2, tables[-1].listed.moment + 1))
     for months, wanted in ((2, 0), (3, 3)):
         config = CONFIG._replace(reference="", provisional=months)
-        found = releases_of(series_of([*tables, late], ()), config, SPEAKS_ENGLISH)
-        assert {it.name: it.provisional for it in found}["2026-02-r2"] == wanted
-        assert {it.provisional for it in found if it.table.revision == 1} == {months}
+        releases = releases_of(series_of([*tables, late], ()), config, SPEAKS_ENGLISH)
+        assert {release.name: release.provisional for release in releases}["2026-02-r2"] == wanted
+        assert {release.provisional for release in releases if release.table.revision == 1} == {months}
 
 
 # ---- that it stays
@@ -216,9 +222,9 @@ def test_a_page_that_changes_is_told(published: list[Published], tmp_path: Path)
     """A month more, a revision and its reason are no change; another name of the office, and a rule without the month
     from which on it holds, change the pages of all releases, and that is told."""
     config = CONFIG._replace(address="")
-    before = [it for it in published if it.listed[:2] < (REVISED, 2)]
+    before = [publication for publication in published if publication.listed[:2] < (REVISED, 2)]
     assert told_by(before, tmp_path / "public", config) == []
-    now = [it for it in published if it.listed.month <= "2026-04"]
+    now = [publication for publication in published if publication.listed.month <= "2026-04"]
     config = config._replace(reasons=(Reason(REVISED, 2, "A slip."),))
     assert told_by(now, tmp_path / "public", config) == []
     config = config._replace(reasons=(*config.reasons, Reason(REVISED, 2, "Another one.", 80_000)))
@@ -240,7 +246,7 @@ def test_another_reference_period_leaves_earlier_releases_as_they_are(tmp_path: 
     old = made(tables[:-1], tmp_path / "old", config)
     values = (Dated("2025-12"), Dated("2026", "2027-01"))
     new = made(tables, tmp_path / "new", config._replace(reference="2026", references=values))
-    for page in sorted(it.name for it in (old / "release").glob("*.html")):
+    for page in sorted(path.name for path in (old / "release").glob("*.html")):
         assert main_of(new / "release" / page) == main_of(old / "release" / page)
     told = words_of(new / "release/2027-01-r1.html")
     assert "Index, 2026 = 100 106.3" in told
@@ -264,6 +270,6 @@ def test_values_that_change_with_a_release_are_read(tmp_path: Path) -> None:
 
 def test_a_month_of_the_base_has_no_page(by_hand: Path) -> None:
     """The first December has no rows, so there is nothing to say."""
-    names = sorted(it.stem for it in (by_hand / "release").glob("*.html"))
+    names = sorted(path.stem for path in (by_hand / "release").glob("*.html"))
     assert names[0] == "2026-01-r1" and len(names) == 25
-    assert Listed("2025-12", 1, 0) in [it.listed for it in two_years()]
+    assert Listed("2025-12", 1, 0) in [year.listed for year in two_years()]

@@ -78,8 +78,8 @@ def test_the_figures_are_the_same(
     for path in (tmp_path / "en").glob("*.csv"):
         assert path.read_bytes() == (tmp_path / language / path.name).read_bytes(), path.name
     first, second = (seen(tmp_path / name / "month.html") for name in ("en", language))
-    back = [it.translate(FIGURES).replace(group or "\0", "").replace(decimal, ".") for it in second.figures]
-    assert [it.replace(",", "").translate(FIGURES) for it in first.figures] == back and len(back) > 300
+    back = [figure.translate(FIGURES).replace(group or "\0", "").replace(decimal, ".") for figure in second.figures]
+    assert [figure.replace(",", "").translate(FIGURES) for figure in first.figures] == back and len(back) > 300
     text = (tmp_path / language / "month.html").read_text(encoding="utf-8")
     assert f'<html lang="{language}"{way}>' in text
     assert "carry list" not in text

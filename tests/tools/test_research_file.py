@@ -121,8 +121,8 @@ def test_an_outlet_keeps_its_number_within_a_file(cpi: Cpi, office: PricedOffice
 def test_numbers_of_outlets_are_drawn_anew(cpi: Cpi, office: PricedOffice, tmp_path: Path) -> None:
     """Of eight files not all have the same numbers: by chance they would once in 120 to the seventh."""
     rules = read_rules(write_rules(tmp_path, RULES))
-    found = {tuple(read_rows(cpi, office.file, NOW, rules).rows) for _ in range(8)}
-    assert len(found) > 1
+    rows = {tuple(read_rows(cpi, office.file, NOW, rules).rows) for _ in range(8)}
+    assert len(rows) > 1
 
 
 def test_no_name_and_no_key_is_in_the_file(cpi: Cpi, office: PricedOffice, tmp_path: Path) -> None:
@@ -171,7 +171,7 @@ def test_the_rows_are_computed_again(
 ) -> None:
     """From what was sent, but for the numbers of outlets: how many rows each has by cell is compared."""
     rules = f'period = "{period}"\nitems = "{deep}"\nprice_digits = {digits}\nleast_outlets = 3\nleast_prices = 4\n[regions]\n'
-    found = read_rows(
+    rows = read_rows(
         cpi,
         random_office.file,
         NOW,
@@ -182,19 +182,19 @@ def test_the_rows_are_computed_again(
     for month, period_in in months.items():
         for sent in random_office.frozen[month, last[month]]:
             cells.setdefault(cell_of(sent, period_in, deep), []).append(sent)
-    priced = {cell: [it.outlet for it in own if it.price is not None] for cell, own in cells.items()}
+    priced = {cell: [sending.outlet for sending in own if sending.price is not None] for cell, own in cells.items()}
     large = {cell for cell, outlets in priced.items() if len(outlets) >= 4 and is_shown(outlets, 3)}
-    wanted = Counter((*cell, mark_of(it), price_of(it, digits)) for cell in large for it in cells[cell])
-    assert Counter((*row[:3], *row[4:]) for row in found.rows) == wanted and large and len(large) < len(cells)
-    sizes = {cell: sorted(Counter(it.outlet for it in cells[cell]).values()) for cell in large}
-    own = {cell: sorted(Counter(row[3] for row in found.rows if row[:3] == cell).values()) for cell in large}
-    assert own == sizes and found.outlets == len({it.outlet for cell in large for it in cells[cell]})
-    assert {row[3] for row in found.rows} == {*range(1, found.outlets + 1)}
+    wanted = Counter((*cell, mark_of(sending), price_of(sending, digits)) for cell in large for sending in cells[cell])
+    assert Counter((*row[:3], *row[4:]) for row in rows.rows) == wanted and large and len(large) < len(cells)
+    sizes = {cell: sorted(Counter(sending.outlet for sending in cells[cell]).values()) for cell in large}
+    own = {cell: sorted(Counter(row[3] for row in rows.rows if row[:3] == cell).values()) for cell in large}
+    assert own == sizes and rows.outlets == len({sending.outlet for cell in large for sending in cells[cell]})
+    assert {row[3] for row in rows.rows} == {*range(1, rows.outlets + 1)}
     left = sum(len(own) for cell, own in cells.items() if cell not in large)
     others = [month for month in ("2026-01", "2026-02", "2026-03", "2026-04") if month not in months]
     of_periods = sum(len(random_office.frozen[month, last[month]]) for month in others)
-    assert found.left_out == LeftOut(left, len(cells) - len(large), of_periods, 0) and found.months == [*months]
-    assert found.rows == sorted(found.rows, key=lambda row: (*row[:5], row[5] or 0))
+    assert rows.left_out == LeftOut(left, len(cells) - len(large), of_periods, 0) and rows.months == [*months]
+    assert rows.rows == sorted(rows.rows, key=lambda row: (*row[:5], row[5] or 0))
 
 
 def mark_of(sent: Sent) -> str:
@@ -263,7 +263,7 @@ def test_a_file_is_never_replaced_and_never_empty(
     assert run_tool(cpi, office, tmp_path, "new.csv", RULES.replace("least_outlets = 4", "least_outlets = 6")) == 1
     assert "no row is left by the rules of" in capsys.readouterr().err
     assert (tmp_path / "prices.csv").read_text() == "mine"
-    assert {it.name for it in tmp_path.iterdir()} == {"prices.csv", "rules.toml"}
+    assert {path.name for path in tmp_path.iterdir()} == {"prices.csv", "rules.toml"}
     assert run_tool(cpi, office, tmp_path, at=9_100_000_000) == 1
     assert "still to come: its tables may be under embargo now" in capsys.readouterr().err
 
@@ -297,7 +297,7 @@ def test_a_file_that_appears_in_the_last_moment_stays(
     assert "prices.csv is there already: wanted the name of a new file" in said.err and said.err.count("\n") == 1
     assert said.out == "" and (tmp_path / "prices.csv").read_text() == "mine"
     assert (tmp_path / "record.csv").read_bytes() == before
-    assert {it.name for it in tmp_path.iterdir()} == {"first.csv", "prices.csv", "record.csv", "rules.toml"}
+    assert {path.name for path in tmp_path.iterdir()} == {"first.csv", "prices.csv", "record.csv", "rules.toml"}
 
 
 def test_a_file_system_without_hard_links_will_do(
@@ -395,7 +395,7 @@ def test_an_outlet_without_a_region_is_refused(
 
 def test_a_fault_of_the_disk_is_one_line(tmp_path: Path) -> None:
     rules = read_rules(write_rules(tmp_path, RULES))
-    found = ResearchRows([("2026-01", "all", "01", 1, "price", 5)], ["2026-01"], 1, LeftOut(0, 0, 0, 0))
+    research_rows = ResearchRows([("2026-01", "all", "01", 1, "price", 5)], ["2026-01"], 1, LeftOut(0, 0, 0, 0))
     with pytest.raises((Fault, OSError), match="nowhere"):
-        write_file(found, rules, "A university", tmp_path / "prices.csv", tmp_path / "nowhere/record.csv", NOW)
-    assert {it.name for it in tmp_path.iterdir()} == {"rules.toml"}
+        write_file(research_rows, rules, "A university", tmp_path / "prices.csv", tmp_path / "nowhere/record.csv", NOW)
+    assert {path.name for path in tmp_path.iterdir()} == {"rules.toml"}

@@ -378,7 +378,7 @@ def test_a_doubt_is_told_and_stops_nothing(cpi: Cpi, backup: Path, place: Path, 
 def test_the_log_of_another_office_is_found(cpi: Cpi, made: Path, backup: Path, place: Path, tmp_path: Path) -> None:
     """Of one with other collectors, some of whose pages fit."""
     other = tmp_path / "other.db"
-    records = [record(0, "desk", "outlet", it, f"Outlet {it}") for it in range(1, 200)]
+    records = [record(0, "desk", "outlet", number, f"Outlet {number}") for number in range(1, 200)]
     with pytest.raises(KeyboardInterrupt), cpi.session(other) as session:
         for one in [*records, record(0, "desk", "collector", 7, "7" * 32)]:
             assert session.ask(one) == {"done": True}

@@ -257,19 +257,19 @@ def test_a_page_keeps_its_bound_or_says_so(tmp_path: Path) -> None:
 
 
 def test_sentences_that_the_seed_does_not_draw_do_not_count(tmp_path: Path) -> None:
-    found = of_page(tmp_path, 90, 0)
-    assert found._replace(seed=2).fault(tmp_path) == "these aren't the sentences that the seed draws"
-    assert found._replace(rows=found.rows[1:]).fault(tmp_path) == "these aren't the sentences that the seed draws"
+    page = of_page(tmp_path, 90, 0)
+    assert page._replace(seed=2).fault(tmp_path) == "these aren't the sentences that the seed draws"
+    assert page._replace(rows=page.rows[1:]).fault(tmp_path) == "these aren't the sentences that the seed draws"
 
 
 def test_a_page_that_is_another_one_now_is_read_again(tmp_path: Path) -> None:
-    found = of_page(tmp_path, 30, 0)
+    page = of_page(tmp_path, 30, 0)
     lines = (tmp_path / "PAGE.md").read_text().split("\n\n")
     for changed, fault in ((10, ""), (11, "the page isn't the one that was read")):
         (tmp_path / "PAGE.md").write_text(
             "\n\n".join([f"Line {at} is quite new now." for at in range(changed)] + lines[changed:])
         )
-        assert found.fault(tmp_path) == fault
+        assert page.fault(tmp_path) == fault
 
 
 def test_each_page_that_was_marked_keeps_its_bound() -> None:

@@ -34,13 +34,13 @@ def asked(expression: str, *given: object) -> Any:
 def found(sought: str) -> tuple[list[str], bool]:
     """The codes that are found, and whether their words are only like those that are sought."""
     told = asked("s.find(s.listOf(given[0]), given[1])", ITEMS, sought)
-    return [it.split(" ")[0] for it, is_found in zip(ITEMS, told["rows"]) if is_found], told["isNear"]
+    return [item.split(" ")[0] for item, is_found in zip(ITEMS, told["rows"]) if is_found], told["isNear"]
 
 
 @pytest.mark.parametrize(
     ("sought", "codes"),
     [
-        ("", [it.split(" ")[0] for it in ITEMS]),
+        ("", [item.split(" ")[0] for item in ITEMS]),
         ("bread", ["01.1.1.3", "01.1.1.3-01"]),
         ("BREAD brown", ["01.1.1.3-01"]),
         ("01.1.1.3", ["01.1.1.3", "01.1.1.3-01"]),

@@ -73,8 +73,8 @@ def put_adjusted(folder: Path, factor: Callable[[str], Fraction] = factor_of) ->
         out.writeheader()
         for row in rows:
             levels = {name: cell for name, cell in row.items() if name != "month" and cell}
-            found = {name: text_of(Fraction(cell) / factor(row["month"][:7])) for name, cell in levels.items()}
-            out.writerow({"month": row["month"], **found})
+            texts = {name: text_of(Fraction(cell) / factor(row["month"][:7])) for name, cell in levels.items()}
+            out.writerow({"month": row["month"], **texts})
 
 
 def exchanged(
@@ -100,7 +100,7 @@ def put(published: list[Published], out: Path, config: Config) -> list[str]:
 
 
 def up_to(published: list[Published], month: str) -> list[Published]:
-    return [it for it in published if it.listed.month <= month]
+    return [publication for publication in published if publication.listed.month <= month]
 
 
 @pytest.fixture(scope="module")
@@ -125,23 +125,23 @@ def pack(first: tuple[Path, Config], tmp_path: Path) -> Path:
 
 def test_the_forms_are_those_that_the_programs_read() -> None:
     """Written by the reference manual of X-13ARIMA-SEATS (series: format datevalue; metafile) and JDemetra+'s text files."""
-    found = exchange_of(
+    exchange = exchange_of(
         [
             Levels("00", 'All "items" {x}', "x11", {"2026-12": "101.200000", "2027-01": "102.000000"}),
             Levels("FUEL", "Carburants à " + "y" * 90, "seats", {"2027-01": "100.500000"}),
         ]
     )
-    assert found.anew == {
+    assert exchange.anew == {
         "series.csv": b"month,00,FUEL\n2026-12-01,101.200000,\n2027-01-01,102.000000,100.500000\n",
         "series.mta": b"00\nFUEL\n",
         "00.dat": b"2026 12 101.200000\n2027 1 102.000000\n",
         "FUEL.dat": b"2027 1 100.500000\n",
     }
-    spec = found.once["00.spc"].decode()
+    spec = exchange.once["00.spc"].decode()
     assert 'title = "00 All  items   x"' in spec and 'file = "00.dat"' in spec and "x11{ save = (d11) }" in spec
-    other = found.once["FUEL.spc"].decode()
+    other = exchange.once["FUEL.spc"].decode()
     assert "seats{ save = (s11) }" in other and other.isascii()
-    assert max(len(it) for it in re.findall('title = "(.*)"', other)) == 79
+    assert max(len(element) for element in re.findall('title = "(.*)"', other)) == 79
 
 
 def test_a_specification_with_the_settings_of_the_office_stays(published: list[Published], tmp_path: Path) -> None:
@@ -185,8 +185,11 @@ def test_levels_are_the_published_ones_of_the_reference_period(first: tuple[Path
 def test_each_form_is_read_exactly(name: str, text: str, tmp_path: Path) -> None:
     """99.1234565 is rounded upwards to 99.123457."""
     (tmp_path / name).write_text(text, newline="")
-    found = read_values(tmp_path / name, "00")
-    assert {month: it.millionths for month, it in found.items()} == {"2026-12": 101_250_000, "2027-01": 99_123_457}
+    values = read_values(tmp_path / name, "00")
+    assert {month: value.millionths for month, value in values.items()} == {
+        "2026-12": 101_250_000,
+        "2027-01": 99_123_457,
+    }
 
 
 @pytest.mark.parametrize(
@@ -231,14 +234,14 @@ def changed(folder: Path, name: str, edit: Callable[[list[str]], list[str]]) -> 
 
 def with_cell(lines: list[str], month: str, column: int, text: str) -> list[str]:
     """The lines with another text in a row."""
-    found = []
+    cell = []
     for line in lines:
         cells = line.split(",")
         if cells[0].startswith(month):
             cells[column] = text
-        found.append(",".join(cells))
-    assert found != lines
-    return found
+        cell.append(",".join(cells))
+    assert cell != lines
+    return cell
 
 
 FAULTS: Mapping[str, tuple[str, Callable[[list[str]], list[str]], str]] = {
@@ -325,7 +328,7 @@ def test_each_figure_is_the_one_that_came_back(first: tuple[Path, Config]) -> No
 def test_pages_say_what_made_them_and_that_they_are_not_for_contracts(first: tuple[Path, Config]) -> None:
     pack, _ = first
     page, home = words_of(pack / "seasonal.html"), words_of(pack / "index.html")
-    row = next(it for it in rows_of(pack / "data/seasonal.csv") if (it["code"], it["month"]) == ("00", "2027-03"))
+    row = next(row for row in rows_of(pack / "data/seasonal.csv") if (row["code"], row["month"]) == ("00", "2027-03"))
     change = row["month_change"].replace("-", "\u2212") if row["month_change"][0] == "-" else f"+{row['month_change']}"
     level = f"{Fraction(row['adjusted']).__round__(1):}"
     assert "X-11 with X-13ARIMA-SEATS 1.1.60 and the settings airline model, trading days" in page
@@ -336,9 +339,9 @@ def test_pages_say_what_made_them_and_that_they_are_not_for_contracts(first: tup
     data = (pack / "data.html").read_text()
     assert 'href="data/seasonal.csv"' in data and "seasonal-vintages" not in data
     described = json.loads((pack / "data/csv-metadata.json").read_text())
-    (own,) = [it for it in described["tables"] if it["url"] == "seasonal.csv"]
+    (own,) = [table for table in described["tables"] if table["url"] == "seasonal.csv"]
     assert own["tableSchema"]["primaryKey"] == ["month", "code"]
-    assert all("dc:description" in it for it in own["tableSchema"]["columns"])
+    assert all("dc:description" in column for column in own["tableSchema"]["columns"])
 
 
 def test_an_office_without_them_has_none_of_it(
@@ -381,7 +384,9 @@ def test_one_file_of_sqlite_has_them(published: list[Published], tmp_path: Path)
     link = sqlite3.connect(tmp_path / "public/data/cpi.sqlite")
     found = link.execute("SELECT adjusted, software FROM seasonal WHERE code = '00' AND month = ?", [LAST]).fetchall()
     link.close()
-    (row,) = [it for it in rows_of(tmp_path / "public/data/seasonal.csv") if (it["code"], it["month"]) == ("00", LAST)]
+    (row,) = [
+        row for row in rows_of(tmp_path / "public/data/seasonal.csv") if (row["code"], row["month"]) == ("00", LAST)
+    ]
     assert found == [(float(row["adjusted"]), "X-13ARIMA-SEATS")]
 
 

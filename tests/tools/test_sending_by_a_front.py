@@ -78,19 +78,19 @@ class Asked(BaseHTTPRequestHandler):
 def front(cpi: Cpi, small: Path) -> Iterator[Front]:
     """A front before the small office."""
     port = free_port()
-    with served(cpi, small, port, 100_000), Front(port) as it:
-        thread = threading.Thread(target=it.serve_forever)
+    with served(cpi, small, port, 100_000), Front(port) as front:
+        thread = threading.Thread(target=front.serve_forever)
         thread.start()
-        yield it
-        it.shutdown()
+        yield front
+        front.shutdown()
         thread.join()
 
 
 @pytest.fixture
 def stand(cpi: Cpi, small: Path, tmp_path: Path, front: Front) -> Iterator[Stand]:
-    it = Stand(cpi, small, tmp_path / "log", front.server_port)
-    yield it
-    it.log.close()
+    stand = Stand(cpi, small, tmp_path / "log", front.server_port)
+    yield stand
+    stand.log.close()
 
 
 @pytest.mark.sampled(4)
@@ -123,7 +123,9 @@ def test_as_long_as_nobody_can_look_nothing_more_is_sent(stand: Stand, front: Fr
     with pytest.raises(Fault, match="the copy can't be taken"):
         stand.sender.send(ADA, DESK_KEY, [OTHER])
     assert (
-        stand.kinds() == [SENT] and front.posts == 1 and [it.records for it in stand.log.open_entries()] == [[OUTLET]]
+        stand.kinds() == [SENT]
+        and front.posts == 1
+        and [entry.records for entry in stand.log.open_entries()] == [[OUTLET]]
     )
     stand.sender._look_up = look_up
     assert [it.replies for it in stand.sender.settle(ADA)] == [[{"stands": True}]]

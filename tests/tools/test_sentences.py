@@ -124,7 +124,9 @@ def test_a_great_count_is_grouped() -> None:
 @pytest.mark.parametrize(("words", "amount"), [((), "2.00"), (("--minor", 1, *EUR), "200 EUR"),
                                                (("--minor", 1000, "--currency", "{KWD}"), "0.200 {KWD}")])  # fmt: skip
 def test_amounts_are_in_the_money_of_the_office(small: Path, words: tuple[object, ...], amount: str) -> None:
-    (compared,) = [it for it in sentences(small, "2026-01", "01.1.1.1-01", *words) if "changed most" in it]
+    (compared,) = [
+        sentence for sentence in sentences(small, "2026-01", "01.1.1.1-01", *words) if "changed most" in sentence
+    ]
     assert f"changed most, from {amount} to " in compared
 
 
@@ -316,9 +318,9 @@ def test_a_series_that_has_ended_is_no_longer_priced(
     / 2.10 = 2.5771. If there is none in both, rice is carried."""
     path, head = tmp_path / "office.db", surveys.SMALL.partition("3500,")[0]
     head = head.replace("assign,8,1,11,RICE,2025-12,2026-12", f"assign,8,1,11,RICE,2025-12,{last}")
-    found = f"3500,{key_of(7)},quote,1,2026-02,price,220\n3500,{key_of(7)},quote,2,2026-02,price,84\n"
+    text = f"3500,{key_of(7)},quote,1,2026-02,price,220\n3500,{key_of(7)},quote,2,2026-02,price,84\n"
     frozen = "4000,desk,freeze,2026-02"
-    assert [it for it in cpi.replay([head, found, frozen], db=path) if "refused" in it] == []
+    assert [it for it in cpi.replay([head, text, frozen], db=path) if "refused" in it] == []
     assert sentences(path, "2026-02", "01.1.1.1-01", *EUR)[2] == f"{why} {NO_LONGER}"
     assert f"  price of 8/1    # {of_lines}\n" in run(None, "explain", path, "2026-02", "01.1.1.1-01").out
     assert f"1 of these prices is imputed ({reason}: 1)." in sentences(path, "2026-02", "00")[2]
@@ -326,7 +328,7 @@ def test_a_series_that_has_ended_is_no_longer_priced(
     assert re.search(f"2026-02 .*{reason}", life) and not re.search(f"2026-01 .*{reason}", life)
 
     other = tmp_path / "carried.db"
-    sent = [head, found.replace("price,220", "missing,stock"), f"{frozen},01.1.1.1-01"]
+    sent = [head, text.replace("price,220", "missing,stock"), f"{frozen},01.1.1.1-01"]
     assert [it for it in cpi.replay(sent, db=other) if "refused" in it] == []
     assert sentences(other, "2026-02", "01.1.1.1-01")[1] == (
         f"Nothing could be compared (Corner shop: out of stock; Market hall: {reason}), so the desk decided to carry 2"
@@ -424,10 +426,10 @@ class Lines:
         self.terms: Counter[str] = Counter()
         self.names: list[str] = []
         for line in text.splitlines():
-            found = re.fullmatch(r"  ([^=#]+?)(?: = ([^#]*?))?(?: = (-?\d+))?(?:    # .*)?", line)
-            if not found:
+            match = re.fullmatch(r"  ([^=#]+?)(?: = ([^#]*?))?(?: = (-?\d+))?(?:    # .*)?", line)
+            if not match:
                 continue
-            name, middle, value = found.groups()
+            name, middle, value = match.groups()
             value = value or middle
             self.names.append(name)
             if value and re.fullmatch(r"-?\d+", value):
@@ -437,18 +439,18 @@ class Lines:
     def changes(self, of: frozenset[str]) -> list[tuple[int, int]]:
         """What each of some series counted as and counts as, the greatest change first."""
         names = [name for name in self.names if name.startswith("carried price of ") and name[17:] in of]
-        found = [(self.values[f"earlier {name}"], self.values[name]) for name in names]
-        return sorted(found, key=lambda it: -abs(Decimal(it[1] - it[0]) / it[0]))
+        values = [(self.values[f"earlier {name}"], self.values[name]) for name in names]
+        return sorted(values, key=lambda value: -abs(Decimal(value[1] - value[0]) / value[0]))
 
     matched: frozenset[str] = frozenset()
     returned: frozenset[str] = frozenset()
 
 
 def lines_of(text: str) -> Lines:
-    found = Lines(text)
-    found.matched = frozenset(re.findall(r"  carried price of (\S+) = .*    # matched$", text, re.M))
-    found.returned = frozenset(re.findall(r"  carried price of (\S+) = .*    # comparable; not observed", text))
-    return found
+    lines = Lines(text)
+    lines.matched = frozenset(re.findall(r"  carried price of (\S+) = .*    # matched$", text, re.M))
+    lines.returned = frozenset(re.findall(r"  carried price of (\S+) = .*    # comparable; not observed", text))
+    return lines
 
 
 def rounded(over: int, under: int, digits: int) -> str:
@@ -477,7 +479,7 @@ def look_at_change(text: str, lines: Lines) -> None:
         if change:
             assert f"by {rounded(abs(change), 10, 1)} percent" in said, text
     now, before, year_before = (
-        lines.values.get(it) for it in ("chained level", "level before", "level a year earlier")
+        lines.values.get(text) for text in ("chained level", "level before", "level a year earlier")
     )
     words = {1: "rose by", -1: "fell by", 0: "changed by less than 0.05 percent"}
     of_month, of_year = (
@@ -499,15 +501,15 @@ def figures(kind: str, lines: Lines) -> tuple[object, ...]:
     """What the groups of a kind have to be, from the lines."""
     values = lines.values
     moved = money(values.get("moved from", 0)), money(values.get("moved to", 0))
-    imputed = [it for it in lines.names if re.match("carried price of", it) and f"{it} imputed" in lines.values]
+    imputed = [name for name in lines.names if re.match("carried price of", name) and f"{name} imputed" in lines.values]
     chained = level(values["link level"]), level(values["chained level"])
     adds = [points(value) for name, value in values.items() if name.startswith("contribution of ")]
-    adds = [it for it in adds if it != "0.00"]
+    adds = [points for points in adds if points != "0.00"]
     changes, returned = lines.changes(lines.matched), lines.changes(lines.returned)
     most = tuple(map(money, changes[0])) if changes else ()
     rose, fell = (sum((now - then) * sign > 0 for then, now in changes) for sign in (1, -1))
-    then = [values[f"earlier {it}"] for it in imputed]
-    carried = [money(values[it]) for it in imputed]
+    then = [values[f"earlier {name}"] for name in imputed]
+    carried = [money(values[name]) for name in imputed]
     of_prices = money(values.get("sum of bases", 0)), money(values.get("sum of carried prices", 0))
     return {
         "one compared": most,
@@ -534,7 +536,7 @@ def figures(kind: str, lines: Lines) -> tuple[object, ...]:
 
 def look_at_sentence(text: str, lines: Lines) -> str:
     """Compares the figures of a sentence with the lines; its kind."""
-    kind, found = next((kind, it) for kind, form in PATTERNS.items() if (it := re.fullmatch(form, text)))
+    kind, found = next((kind, match) for kind, form in PATTERNS.items() if (match := re.fullmatch(form, text)))
     if kind == "change":
         look_at_change(text, lines)
     elif kind == "contributions":
@@ -549,8 +551,8 @@ def look_at_sentence(text: str, lines: Lines) -> str:
     else:
         assert kind not in ("level", "returned") or (kind == "returned") == bool(lines.returned)
         wanted = figures(kind, lines)
-        pairs = [(it, want) for it, want in zip(found.groups(), wanted) if want is not None]
-        assert [it for it, _ in pairs] == [str(want) for _, want in pairs], text
+        pairs = [(group, want) for group, want in zip(found.groups(), wanted) if want is not None]
+        assert [pair for pair, _ in pairs] == [str(want) for _, want in pairs], text
     return kind
 
 
@@ -566,14 +568,16 @@ def test_each_figure_of_each_sentence_is_one_of_the_lines(whole: Path) -> None:
                 lines.values[f"carried price of {series} imputed"] = 1
             said = out.partition("\n\n")[0].splitlines()[1:]
             counts[len(said)] += 1
-            kinds.update(look_at_sentence(it, lines) for it in said)
+            kinds.update(look_at_sentence(line, lines) for line in said)
     assert {*counts} == {3, 4, 5}
     assert {*PATTERNS} - {*kinds} == set()
 
 
 def nodes_of(path: Path, month: str) -> list[str]:
     """All nodes of a month."""
-    weights = {code: it.first if month < "2027" else it.second for code, it in surveys.AGGREGATES.items()}
+    weights = {
+        code: aggregate.first if month < "2027" else aggregate.second for code, aggregate in surveys.AGGREGATES.items()
+    }
     kept = [code for code, weight in weights.items() if weight and code != "12.1.1.1-01"]
     return sorted({"00", *(code[:end] for code in kept for end in (2, 4, 6, 8, 11))})
 

@@ -27,9 +27,9 @@ NAMES = {
 
 
 def read(path: Path, name: str = "outlets") -> Sheet:
-    found = Source(path, NAMES).sheet(name)
-    assert found is not None
-    return found
+    sheet = Source(path, NAMES).sheet(name)
+    assert sheet is not None
+    return sheet
 
 
 def unread(source: Source) -> list[str]:
@@ -66,9 +66,9 @@ def test_a_csv_file_of_each_separator(tmp_path: Path, delimiter: str) -> None:
     (tmp_path / "outlets.csv").write_text("\r\n".join(cells), encoding="utf-8", newline="")
     sheet = read(tmp_path)
     assert sheet.columns == ("outlet", "name")
-    found = [(row.origin.row, row["outlet"], row["name"]) for row in sheet.rows]
+    rows = [(row.origin.row, row["outlet"], row["name"]) for row in sheet.rows]
     # (a spreadsheet counts rows, not lines: an empty one counts, and two lines of one cell are one row)
-    assert found == [(2, "10", "Corner shop"), (5, "11", 'Hall, "old"'), (6, "12", "two\nlines"), (7, "13", "x")]
+    assert rows == [(2, "10", "Corner shop"), (5, "11", 'Hall, "old"'), (6, "12", "two\nlines"), (7, "13", "x")]
     assert sheet.rows[0].origin == Origin("outlets.csv", 2) and sheet.rows[0]["other"] == ""
 
 
@@ -92,7 +92,7 @@ def test_a_csv_file_that_is_no_table(tmp_path: Path, content: bytes, row: int, b
 def test_a_cell_in_no_named_column_is_told_and_nothing_is_lost_without_a_word(tmp_path: Path) -> None:
     (tmp_path / "outlets.csv").write_text("outlet,,name\n10,,Shop\n11,,Shop, red\n12,x,Shop\n13,,Shop,,\n")
     told = read(tmp_path).faults
-    assert [it.origin for it in told] == [Origin("outlets.csv", 3), Origin("outlets.csv", 4)]
+    assert [fault.origin for fault in told] == [Origin("outlets.csv", 3), Origin("outlets.csv", 4)]
 
 
 # ---- where a sheet is found
@@ -236,7 +236,9 @@ def test_cells_are_the_texts_that_csv_has(tmp_path: Path) -> None:
     (row,) = read(path.parent).rows
     texts = ["5", "2.5", "210", "01.1", "TRUE", "2025-12-01", "2025-12-05", "2026-01-01T00:00", "", "0"]
     assert [*row.cells.values()] == texts
-    assert [isinstance(cell, Numeral) for cell in row.cells.values()] == [it in (0, 1, 2, 9) for it in range(10)]
+    assert [isinstance(cell, Numeral) for cell in row.cells.values()] == [
+        number in (0, 1, 2, 9) for number in range(10)
+    ]
 
 
 def test_a_number_has_the_digits_that_a_spreadsheet_keeps(tmp_path: Path) -> None:
@@ -350,6 +352,6 @@ def test_a_cell_is_shown_as_it_is(text: str, wanted: str) -> None:
 
 
 def test_numbers_as_texts() -> None:
-    found = [decimal(Fraction(n, 10_000)) for n in (4, 5, -4, -5, 12_345_675)]
-    assert found == ["0.000", "0.001", "0.000", "-0.001", "1,234.568"]
+    decimals = [decimal(Fraction(n, 10_000)) for n in (4, 5, -4, -5, 12_345_675)]
+    assert decimals == ["0.000", "0.001", "0.000", "-0.001", "1,234.568"]
     assert [decimal(Fraction(n), "+") for n in (1, 0, -1)] == ["+1.000", "+0.000", "-1.000"]

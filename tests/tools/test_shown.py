@@ -45,17 +45,17 @@ def pack(published: list[Published], tmp_path_factory: pytest.TempPathFactory) -
 @pytest.fixture(scope="module")
 def levels(published: list[Published]) -> Levels:
     """By month and code, the levels of the latest tables with 2025 = 100 if they are linked to it, else as printed."""
-    found: Levels = {}
-    for it in published:
-        for row in csv.reader(io.StringIO(it.table.decode(), newline="")):
-            found[it.listed.month, row[0]] = Fraction(row[3])
+    levels: Levels = {}
+    for publication in published:
+        for row in csv.reader(io.StringIO(publication.table.decode(), newline="")):
+            levels[publication.listed.month, row[0]] = Fraction(row[3])
     moved: Levels = {}
-    for code in {code for _, code in found}:
-        first = [found.get((f"2025-{at:02}", code)) for at in range(1, 13)]
-        mean = sum((it for it in first if it), Fraction()) / 12
-        for month, level in ((month, level) for (month, each), level in found.items() if each == code):
+    for code in {code for _, code in levels}:
+        first = [levels.get((f"2025-{at:02}", code)) for at in range(1, 13)]
+        mean = sum((level for level in first if level), Fraction()) / 12
+        for month, level in ((month, level) for (month, each), level in levels.items() if each == code):
             # (what isn't in 2026 has no link from 2025 to 2027)
-            is_linked = bool(first[0]) and (month < "2026" or ("2026-01", code) in found)
+            is_linked = bool(first[0]) and (month < "2026" or ("2026-01", code) in levels)
             moved[month, code] = 100 * level / mean if is_linked else level
             if is_linked:
                 moved["2024-12", code] = 100 * Fraction(100) / mean
@@ -107,10 +107,10 @@ def test_the_printed_file_is_what_readers_can_compute(pack: Path, levels: Levels
 def test_the_rule_changes_some_figures(published: list[Published], pack: Path, tmp_path: Path) -> None:
     publish(published, CONFIG._replace(rates="exact"), tmp_path / "exact", None, lambda _: None)
     own, exact = (
-        {(it["month"], it["code"]): it["year_change"] for it in rows_of(folder / "data/printed.csv")}
+        {(row["month"], row["code"]): row["year_change"] for row in rows_of(folder / "data/printed.csv")}
         for folder in (pack, tmp_path / "exact")
     )
-    table = {(it["month"], it["code"]): it["year_change"] for it in rows_of(tmp_path / "exact/data/cpi.csv")}
+    table = {(row["month"], row["code"]): row["year_change"] for row in rows_of(tmp_path / "exact/data/cpi.csv")}
     assert exact == table and own.keys() == exact.keys() and sum(own[key] != exact[key] for key in own) > 20
     rule = "Changes are computed from the printed index with one decimal place."
     for page in ("index.html", "node/07.html", "method.html"):
@@ -124,12 +124,12 @@ def test_each_form_has_the_same_reference_period(pack: Path, levels: Levels) -> 
     half, all_items = Fraction(1, 2 * 10**6), {
         month: level for (month, code), level in levels.items() if code == "00"
     }
-    of_sdmx = [it for it in rows_of(pack / "data/cpi.sdmx.csv") if (it["FREQ"], it["COICOP18"]) == ("M", "_T")]
-    found = {it["TIME_PERIOD"]: Fraction(it["OBS_VALUE"]) for it in of_sdmx if it["MEASURE"] == "CPI"
-             and it["TRANSFORMATION"] == "N"}  # fmt: skip
-    assert len(found) == 29 and all(abs(found[month] - all_items[month]) <= half for month in found)
-    rates = {it["TIME_PERIOD"]: Fraction(it["OBS_VALUE"]) for it in of_sdmx if it["TRANSFORMATION"] == "GY"
-             and it["MEASURE"] == "CPI"}  # fmt: skip
+    of_sdmx = [row for row in rows_of(pack / "data/cpi.sdmx.csv") if (row["FREQ"], row["COICOP18"]) == ("M", "_T")]
+    fractions = {row["TIME_PERIOD"]: Fraction(row["OBS_VALUE"]) for row in of_sdmx if row["MEASURE"] == "CPI"
+             and row["TRANSFORMATION"] == "N"}  # fmt: skip
+    assert len(fractions) == 29 and all(abs(fractions[month] - all_items[month]) <= half for month in fractions)
+    rates = {row["TIME_PERIOD"]: Fraction(row["OBS_VALUE"]) for row in of_sdmx if row["TRANSFORMATION"] == "GY"
+             and row["MEASURE"] == "CPI"}  # fmt: skip
     for month, rate in rates.items():
         assert rate == changed(base_of(levels, month, 12, "00"), printed(all_items[month]))
     head, whole, *_ = openpyxl.load_workbook(pack / "data/cpi.xlsx")["Index"].iter_rows(values_only=True)
@@ -154,7 +154,7 @@ def test_each_form_has_the_same_reference_period(pack: Path, levels: Levels) -> 
 def test_a_month_that_is_not_out_yet_leaves_a_gap(published: list[Published], tmp_path: Path) -> None:
     """May 2026 comes out after June. June's change stays that of the table, and a set has no figure in June: its change
     is against May. From July on the set goes on."""
-    tables = [it for it in published if it.listed.month != "2026-05"]
+    tables = [publication for publication in published if publication.listed.month != "2026-05"]
     config = CONFIG._replace(specials=(Special("FUELS", "Fuels", ("07.2.2",)),))
     publish(tables, config, tmp_path / "public", None, lambda _: None)
     table = {row["code"]: row for row in rows_of(tmp_path / "public/data/cpi.csv") if row["month"] == "2026-06"}
@@ -169,7 +169,7 @@ def test_a_month_that_is_not_out_yet_leaves_a_gap(published: list[Published], tm
 
 def test_averages_have_the_reference_period_too(pack: Path, levels: Levels) -> None:
     half = Fraction(1, 2 * 10**6)
-    rows = {(it["code"], it["year"]): it for it in rows_of(pack / "data/averages.csv")}
+    rows = {(row["code"], row["year"]): row for row in rows_of(pack / "data/averages.csv")}
     for (code, year), row in rows.items():
         mean = sum((levels[f"{year}-{at:02}", code] for at in range(1, 13)), Fraction()) / 12
         assert abs(Fraction(row["average"]) - mean) <= half

@@ -44,7 +44,7 @@ def pack(published: list[Published], key: Path, tmp_path_factory: pytest.TempPat
 def commands_of(pack: Path) -> list[str]:
     """What the page of a pack tells its readers to type."""
     page = (pack / "check.html").read_text(encoding="utf-8")
-    return [html.unescape(it) for it in re.findall("<pre>(.*?)</pre>", page)]
+    return [html.unescape(element) for element in re.findall("<pre>(.*?)</pre>", page)]
 
 
 def as_told(pack: Path) -> subprocess.CompletedProcess[str]:
@@ -108,7 +108,7 @@ def test_a_signed_pack_is_not_replaced_by_one_that_is_not(
 ) -> None:
     out = tmp_path / "public"
     publish(published[:3], CONFIG, out, None, quiet)
-    assert not FILES & {it.name for it in out.iterdir()}
+    assert not FILES & {path.name for path in out.iterdir()}
     assert "Signed by" not in words_of(out / "index.html")
     publish(published[:4], CONFIG, out, None, quiet, key=key)
     with pytest.raises(CannotPublish, match="public is signed, and the new pack wouldn't be: --sign names the key"):

@@ -29,7 +29,7 @@ def test_it_isn_t_replaced_by_a_pack_without_a_signature(
     with pytest.raises(CannotPublish, match="public is signed, and the new pack wouldn't be: --sign names the key"):
         publish(published[:4], CONFIG, out, None, quiet)
     publish(published[:4], CONFIG, out, None, quiet, key=key)
-    assert FILES <= {it.name for it in out.iterdir()} and as_told(out).returncode == 0
+    assert FILES <= {path.name for path in out.iterdir()} and as_told(out).returncode == 0
 
 
 def test_files_that_aren_t_a_signature_are_told(published: list[Published], key: Path, tmp_path: Path) -> None:

@@ -247,13 +247,13 @@ def test_a_hidden_revision_is_told_beside_what_the_published_levels_do_not_give(
     """A hidden revision of January 2026 changed one node: all items before January 2027, or tea (02) before February
     2026. Only the page of that node says so."""
     tables = two_years()[:14]
-    by_month = {it.listed.month: it for it in tables}
+    by_month = {table.listed.month: table for table in tables}
     annual, monthly = "the annual change", "the monthly change"
 
     def told(last: str, was: bytes, now: bytes, page: str) -> str:
         changed = by_month[last].table.replace(was, now)
         assert changed != by_month[last].table
-        kept = [it for it in tables if it.listed.month < last]
+        kept = [table for table in tables if table.listed.month < last]
         out = tmp_path / f"{last}-{page}-{now.decode()}"
         return words_of(site_of([*kept, by_month[last]._replace(table=changed)], out) / f"node/{page}.html")
 
@@ -273,15 +273,15 @@ def test_a_hidden_revision_is_told_beside_what_the_published_levels_do_not_give(
 
 def test_a_month_before_that_was_revised_is_told_beside_the_change(published: list[Published], tmp_path: Path) -> None:
     """Of the month after a revision that is published, and of the last month, whose month before has a hidden one."""
-    until = [it for it in published if it.listed.month <= "2026-04"]
+    until = [publication for publication in published if publication.listed.month <= "2026-04"]
     levels = [
-        Fraction(it.table.decode().split(",", 4)[3])
-        for it in until
-        if it.listed.month == REVISED and it.table[:2] == b"00"
+        Fraction(publication.table.decode().split(",", 4)[3])
+        for publication in until
+        if publication.listed.month == REVISED and publication.table[:2] == b"00"
     ]
     assert len(levels) == 2 and REVISED == "2026-03"
     site = site_of(until, tmp_path / "told")
-    told, old, new = words_of(site / "index.html"), *(f"{float(it):.1f}" for it in levels)
+    told, old, new = words_of(site / "index.html"), *(f"{float(level):.1f}" for level in levels)
     assert f"its index is {new}, and was {old} before. The revised index is used in the monthly change" in told
     assert "was revised" in words_of(site / "node/01.html") and "was revised" not in words_of(site / "node/07.html")
     last = words_of(site_of(published, tmp_path / "last") / "index.html")
@@ -289,12 +289,12 @@ def test_a_month_before_that_was_revised_is_told_beside_the_change(published: li
         "April 2027 was revised, and that revision isn't published yet. It is already used in the monthly change"
         in last
     )
-    after = [it for it in published if it.listed.month <= "2026-05"]
+    after = [publication for publication in published if publication.listed.month <= "2026-05"]
     assert "was revised" not in words_of(site_of(after, tmp_path / "after") / "index.html")
 
 
 def test_a_year_before_that_was_revised_is_told_beside_the_change(published: list[Published], tmp_path: Path) -> None:
-    until = [it for it in published if it.listed.month <= "2027-03"]
+    until = [publication for publication in published if publication.listed.month <= "2027-03"]
     told = words_of(site_of(until, tmp_path / "told") / "index.html")
     assert "March 2026 was revised" in told and "The revised index is used in the annual change (" in told
 
@@ -312,14 +312,14 @@ def test_what_left_long_ago_has_its_pictures() -> None:
 
 def seven_years() -> list[Published]:
     """Tables in which nothing moves; tea is in the first year alone."""
-    found = [Published(Listed("2019-12", 1, 0), b"")]
+    publications = [Published(Listed("2019-12", 1, 0), b"")]
     for year in range(2020, 2027):
         for month in range(1, 13):
             codes = ("00", "01", "02") if year == 2020 else ("00", "01")
             annual = "0.0" if year > 2020 or month == 12 else ""
             rows = (f"{code},1000000,100.000000,100.000000,0.0,{annual},0,Title of {code}\n" for code in codes)
-            found.append(Published(Listed(f"{year}-{month:02}", 1, len(found)), "".join(rows).encode()))
-    return found
+            publications.append(Published(Listed(f"{year}-{month:02}", 1, len(publications)), "".join(rows).encode()))
+    return publications
 
 
 def test_the_imputed_share_says_what_it_is_of(site: Path, published: list[Published]) -> None:
@@ -337,13 +337,13 @@ def test_the_imputed_share_says_what_it_is_of(site: Path, published: list[Publis
 
 def test_the_imputed_share_is_by_the_weight_of_elementary_aggregates() -> None:
     """Of two aggregates of a subclass one has an imputed price, and 0.3 of the weight; so have all nodes above it."""
-    found = [Published(Listed("2025-12", 1, 0), b"")]
+    publications = [Published(Listed("2025-12", 1, 0), b"")]
     for at, imputed in enumerate((("1", "0"), ("0", "0"), ("1", "1")), 1):
         above = [(code, 1_000_000, max(imputed)) for code in ("00", "01", "01.1", "01.1.1", "01.1.1.1")]
         rows = [*above, ("01.1.1.1-01", 300_000, imputed[0]), ("01.1.1.1-02", 700_000, imputed[1])]
-        text = "".join(f"{code},{weight},100.000000,100.000000,0.0,,{it},Title\n" for code, weight, it in rows)
-        found.append(Published(Listed(f"2026-{at:02}", 1, at), text.encode()))
-    told = of_imputed(Series(found))
+        text = "".join(f"{code},{weight},100.000000,100.000000,0.0,,{row},Title\n" for code, weight, row in rows)
+        publications.append(Published(Listed(f"2026-{at:02}", 1, at), text.encode()))
+    told = of_imputed(Series(publications))
     assert told.last == "100"
     assert told.figures == [("March 2026", "100"), ("February 2026", "0"), ("January 2026", "30")]
     assert "Between 0 and 100 percent of the weight." in told.picture
@@ -412,14 +412,14 @@ class Links(HTMLParser):
         self.unnamed = 0
 
     def handle_starttag(self, tag: str, attrs: list[tuple[str, Optional[str]]]) -> None:
-        found = {name: value or "" for name, value in attrs}
-        self.links += [found[name] for name in ("href", "src") if name in found]
-        self.ids += [found["id"]] if "id" in found else []
-        self.named += [found["for"]] if tag == "label" and "for" in found else []
-        if tag in ("input", "select") and found.get("type") != "radio":
-            self.fields.append(found.get("id", ""))
-        self.unnamed += tag == "svg" and "aria-labelledby" not in found
-        self.unnamed += found.get("role") == "region" and not found.get("aria-label")
+        values = {name: value or "" for name, value in attrs}
+        self.links += [values[name] for name in ("href", "src") if name in values]
+        self.ids += [values["id"]] if "id" in values else []
+        self.named += [values["for"]] if tag == "label" and "for" in values else []
+        if tag in ("input", "select") and values.get("type") != "radio":
+            self.fields.append(values.get("id", ""))
+        self.unnamed += tag == "svg" and "aria-labelledby" not in values
+        self.unnamed += values.get("role") == "region" and not values.get("aria-label")
 
 
 def test_pages_lead_to_what_is_there_and_to_nothing_else(site: Path) -> None:

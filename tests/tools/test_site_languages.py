@@ -55,12 +55,12 @@ def site(published: list[Published], tmp_path_factory: pytest.TempPathFactory) -
 
 def names(folder: Path) -> set[str]:
     """The pages of a folder."""
-    return {it.relative_to(folder).as_posix() for it in folder.rglob("*.html")}
+    return {path.relative_to(folder).as_posix() for path in folder.rglob("*.html")}
 
 
 def test_each_language_has_the_same_pages_and_data_are_there_once(site: Path) -> None:
     french = names(site / "fr")
-    first = {it for it in names(site) if not it.startswith(("fr/", "ar/"))}
+    first = {name for name in names(site) if not name.startswith(("fr/", "ar/"))}
     assert french == names(site / "ar") == first - {"404.html"}
     assert not [*(site / "fr").rglob("*.csv")] and not (site / "fr/data").exists()
 
@@ -69,22 +69,22 @@ def test_the_first_language_is_as_without_others(site: Path, published: list[Pub
     """But for the switch, the addresses of the other languages, the map of all pages, and forms of data that have their titles
     in all languages, or a version by these, with the sums of them."""
     publish(published, CONFIG._replace(speaks=OfficeLanguages()), tmp_path / "alone", None, lambda _: None)
-    alone = {it.relative_to(tmp_path / "alone") for it in (tmp_path / "alone").rglob("*") if it.is_file()}
+    alone = {path.relative_to(tmp_path / "alone") for path in (tmp_path / "alone").rglob("*") if path.is_file()}
     of_others = re.compile(
         r'<link rel="alternate" hreflang=[^\n]*\n|<nav class="languages"[^>]*>\n<ul>\n(?:<li>[^\n]*\n)*</ul>\n</nav>\n|"inLanguage":"en",'
     )
     named = re.compile(r"(\.sdmx\.(csv|xml)|structure\.xml|artefacts\.json|\.px|\.jsonstat\.json)$")
     slices = re.compile("data/(newest|slices|sdmx|json-stat)/")
     described = re.compile(r"(csv-metadata|-schema)\.json$|catalog\.jsonld$")
-    forms = {it for it in alone if named.search(it.name) and not slices.match(it.as_posix())}
+    forms = {relative for relative in alone if named.search(relative.name) and not slices.match(relative.as_posix())}
     assert len(forms) == 6
-    forms |= {it for it in alone if slices.match(it.as_posix()) or described.search(it.name)}
+    forms |= {relative for relative in alone if slices.match(relative.as_posix()) or described.search(relative.name)}
     for name in sorted(alone - forms - {Path("SHA256SUMS"), Path("sitemap.xml")}):
         here, there = (site / name).read_bytes(), (tmp_path / "alone" / name).read_bytes()
         if name.suffix == ".html":
             sizes = re.compile(r"[0-9.]+.?k?B\b|[0-9a-f]{64}" if name.name == "data.html" else "^$")
             texts = (of_others.sub("", it.decode()) for it in (here, there))
-            assert len({sizes.sub("", it) for it in texts}) == 1, name
+            assert len({sizes.sub("", text) for text in texts}) == 1, name
         else:
             assert here == there, name
 
@@ -95,7 +95,7 @@ def figures(page: str, decimal: str = ".") -> list[str]:
     texts = (html.unescape(re.sub(r"<[^>]*>", "", cell)) for cell in cells)
     digits = {ord("\u0660") + at: str(at) for at in range(10)}
     plain = (text.translate(digits).replace("\u066b", ".").replace(decimal, ".") for text in texts)
-    return [found[0] for text in plain if (found := re.findall(r"[+\u2212]?\d+(?:\.\d+)?", text))]
+    return [matches[0] for text in plain if (matches := re.findall(r"[+\u2212]?\d+(?:\.\d+)?", text))]
 
 
 @pytest.mark.parametrize(("tag", "decimal"), [("fr", ","), ("ar", ".")])
@@ -126,7 +126,9 @@ def test_a_page_says_its_language_its_address_and_the_others(site: Path) -> None
         for way in re.findall(r'(?:href|src)="([^"#?:]+)', text):
             assert way in ("data", "https") or (folder / html.unescape(way)).exists(), (name, way)
     places = re.findall(r"<loc>(.*?)</loc>", (site / "sitemap.xml").read_text(encoding="utf-8"))
-    assert len(places) == len({*places}) == 3 * len([it for it in names(site / "fr") if not it.startswith("embed/")])
+    assert (
+        len(places) == len({*places}) == 3 * len([name for name in names(site / "fr") if not name.startswith("embed/")])
+    )
 
 
 def test_titles_are_those_of_the_language_and_else_the_offices_own(site: Path) -> None:
@@ -182,15 +184,17 @@ def test_sdmx_has_titles_in_each_language(site: Path) -> None:
     language = "{http://www.w3.org/XML/1998/namespace}lang"
 
     def names_of(element: ElementTree.Element) -> dict[str, str]:
-        found = [it for it in element if it.tag.endswith("}Name")]
-        assert len({it.attrib[language] for it in found}) == len(found)
-        return {it.attrib[language]: it.text or "" for it in found}
+        names = [it for it in element if it.tag.endswith("}Name")]
+        assert len({name.attrib[language] for name in names}) == len(names)
+        return {name.attrib[language]: name.text or "" for name in names}
 
-    codes = {it.attrib["id"]: names_of(it) for it in root.iter(f"{kind}Code")}
+    codes = {element.attrib["id"]: names_of(element) for element in root.iter(f"{kind}Code")}
     assert codes["_T"] == {"en": "All items", "fr": "Ensemble"} and [*codes["CP01"]] == ["en"]
     assert codes["PC"]["fr"] == "Pourcentage" and {*codes["PC"]} == {"en", "fr", "ar"}
-    assert all({*names_of(it)} == {"en", "fr", "ar"} for it in root.iter(f"{kind}Concept"))
-    assert [names_of(it)["fr"] for it in root.iter(f"{kind}Dataflow")] == ["Indice des prix \u00e0 la consommation"]
+    assert all({*names_of(element)} == {"en", "fr", "ar"} for element in root.iter(f"{kind}Concept"))
+    assert [names_of(element)["fr"] for element in root.iter(f"{kind}Dataflow")] == [
+        "Indice des prix \u00e0 la consommation"
+    ]
 
 
 def test_what_is_written_again_is_the_same(site: Path, published: list[Published]) -> None:
@@ -219,8 +223,10 @@ def test_no_word_is_left_in_english(tmp_path: Path, monkeypatch: pytest.MonkeyPa
     config = CONFIG._replace(address="", speaks=OfficeLanguages(("el",)), specials=())
     tables = two_years()[:14]
     publish(tables, config, tmp_path / "public", None, lambda _: None)
-    titles = {row[7] for it in tables for row in csv.reader(it.table.decode().splitlines())}
-    named = "|".join(re.escape(html.escape(it)) for it in sorted({config.title, config.office, *titles}, key=len)[::-1])
+    titles = {row[7] for table in tables for row in csv.reader(table.table.decode().splitlines())}
+    named = "|".join(
+        re.escape(html.escape(title)) for title in sorted({config.title, config.office, *titles}, key=len)[::-1]
+    )
     left = dict[str, str]()
     for path in sorted((tmp_path / "public").rglob("*.html")):
         text = HEADS.sub(lambda it: re.sub(named, " ", it[0], flags=re.I), path.read_text(encoding="utf-8"))

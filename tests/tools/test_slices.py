@@ -73,11 +73,11 @@ def test_all_slices_together_are_the_whole(pack: Path, whole: list[Attributes]) 
     assert names == {f"{part}.sdmx.{end}" for part in parts for end in ("csv", "xml")}
     together: Observations = set()
     for part in parts:
-        found = in_xml(pack / f"data/slices/{part}.sdmx.xml")
+        observations = in_xml(pack / f"data/slices/{part}.sdmx.xml")
         rows = rows_of(pack / f"data/slices/{part}.sdmx.csv")
         plain = [{name: it for name, it in row.items() if name not in BEFORE} for row in rows]
-        assert observed(plain) == found and {row["ACTION"] for row in rows} == {"I"}
-        together |= found
+        assert observed(plain) == observations and {row["ACTION"] for row in rows} == {"I"}
+        together |= observations
     assert together == observed(whole) and len(together) > 3000
 
 
@@ -155,9 +155,9 @@ def test_the_paths_are_the_index_of_each_item_and_all_series_of_headline_figures
         for row in whole
         if row["COICOP18"] in headline or (row["FREQ"], row["MEASURE"], row["TRANSFORMATION"]) == ("M", "CPI", "N")
     }
-    found = [*(pack / "data/sdmx/data/DF_CPI").iterdir()]
-    assert {path.name for path in found} == wanted and len(wanted) > 60
-    for path in found:
+    paths = [*(pack / "data/sdmx/data/DF_CPI").iterdir()]
+    assert {path.name for path in paths} == wanted and len(wanted) > 60
+    for path in paths:
         assert {".".join(row[name] for name in SERIES) for row in read_sdmx_ml(path)} == {path.name}
 
 
@@ -215,7 +215,9 @@ def test_sums_have_the_slices_and_check_makes_them_again(published: list[Publish
 
 def test_the_next_month_is_as_if_the_pack_were_made_from_nothing(published: list[Published], tmp_path: Path) -> None:
     out = tmp_path / "public"
-    publish([it for it in published if it.listed.month < "2027-05"], CONFIG, out, None, quiet)
+    publish(
+        [publication for publication in published if publication.listed.month < "2027-05"], CONFIG, out, None, quiet
+    )
     publish(published, CONFIG, out, None, quiet)
     publish(published, CONFIG, tmp_path / "new", None, quiet)
     for folder in ("newest", "slices", "json-stat"):
@@ -239,8 +241,8 @@ def test_an_office_may_be_without_them(
 ) -> None:
     config = CONFIG._replace(without=frozenset({*without, "pictures"}))
     publish(published[:14], config, tmp_path / "public", None, quiet)
-    found = {path.name for path in (tmp_path / "public/data").iterdir() if path.is_dir()}
-    assert found - {"tables"} == there
+    names = {path.name for path in (tmp_path / "public/data").iterdir() if path.is_dir()}
+    assert names - {"tables"} == there
     page = (tmp_path / "public/data.html").read_text(encoding="utf-8")
     assert ("newest/cpi.csv" in page) == ("newest" in there)
     assert ("data/sdmx/data/DF_CPI/M.XX.CPI.IX._T.N" in page) == ("sdmx" in there)

@@ -75,13 +75,13 @@ def pack(published: list[Published], config: Config, tmp_path_factory: pytest.Te
 @pytest.fixture(scope="module")
 def months(published: list[Published]) -> dict[str, dict[str, Elementary]]:
     """The elementary aggregates of the latest tables, read here."""
-    found: dict[str, dict[str, Elementary]] = {}
-    for it in published:
-        rows = csv.reader(io.StringIO(it.table.decode(), newline=""))
+    elementaries: dict[str, dict[str, Elementary]] = {}
+    for publication in published:
+        rows = csv.reader(io.StringIO(publication.table.decode(), newline=""))
         own = {row[0]: Elementary(int(row[1]), Fraction(row[2]), row[6] == "1") for row in rows if len(row[0]) == 11}
         if own:
-            found[it.listed.month] = own
-    return found
+            elementaries[publication.listed.month] = own
+    return elementaries
 
 
 @pytest.fixture(scope="module")
@@ -171,16 +171,16 @@ def test_averages_rates_and_another_reference_period(pack: Path, wanted: dict[st
 def test_other_forms_have_the_same_figures(pack: Path, wanted: dict[str, dict[str, Figures]]) -> None:
     levels = {(month, name): it.level for name, found in wanted.items() for month, it in found.items()}
     rows = [row for row in rows_of(pack / "data/cpi.sdmx.csv") if row["COICOP18"] in SETS]
-    chained = [it for it in rows if it["MEASURE"] == "CPIC"]
-    told = {(it["TIME_PERIOD"], it["COICOP18"]): Fraction(it["OBS_VALUE"]) for it in chained}
+    chained = [row for row in rows if row["MEASURE"] == "CPIC"]
+    told = {(row["TIME_PERIOD"], row["COICOP18"]): Fraction(row["OBS_VALUE"]) for row in chained}
     assert told == levels
     given_to_all = {(row["month"], row["code"]): row["contribution_year"]
                     for row in rows_of(pack / "data/aggregate-contributions.csv")
                     if row["of"] == "00" and row["contribution_year"]}  # fmt: skip
-    of_year = [it for it in rows if (it["MEASURE"], it["TRANSFORMATION"]) == ("CTR", "GY")]
-    assert {(it["TIME_PERIOD"], it["COICOP18"]): it["OBS_VALUE"] for it in of_year} == given_to_all
+    of_year = [row for row in rows if (row["MEASURE"], row["TRANSFORMATION"]) == ("CTR", "GY")]
+    assert {(row["TIME_PERIOD"], row["COICOP18"]): row["OBS_VALUE"] for row in of_year} == given_to_all
     named = ElementTree.parse(pack / "data/structure.sdmx.xml").iter()
-    assert {*SETS} <= {it.get("id") for it in named if it.tag.endswith("}Code")}
+    assert {*SETS} <= {element.get("id") for element in named if element.tag.endswith("}Code")}
     head, *cells = openpyxl.load_workbook(pack / "data/cpi.xlsx")["Chained level"].iter_rows(values_only=True)
     in_book = {(month, row[0]): value for row in cells for month, value in zip(head[2:], row[2:]) if row[0] in SETS}
     assert {key: Fraction(str(value)) for key, value in in_book.items() if value is not None} == levels
@@ -215,7 +215,9 @@ def test_sets_that_part_all_items_have_contributions_that_add_up(published: list
         for parts in (("NORTH", "SOUTH"), ("FOOD", "ENERGY", "CORE")):
             for is_annual in (False, True):
                 own = [contributions.of(month, name, "00") for name in parts]
-                terms = [Fraction(*it) for each in own for it in [each.to_year if is_annual else each.to_month] if it]
+                terms = [
+                    Fraction(*year) for each in own for year in [each.to_year if is_annual else each.to_month] if year
+                ]
                 base = (series.year_base if is_annual else series.month_base)(month, "00")
                 if terms and base:
                     assert abs(sum(terms) - Fraction(100 * (whole.chained - base), base)) < Fraction(4, 10**6)
@@ -232,9 +234,11 @@ def test_a_set_that_leaves_and_is_back_has_a_break(pack: Path, config: Config, p
     # (telephones come in 2026, pears leave then and are back in 2027, and flour leaves in 2026)
     changed = {(month, name) for name in ("FOOD", "SOUTH", "EVERY") for month in ("2026-01", "2027-01")}
     assert marked == {("2027-01", "FRUIT"), ("2026-01", "NORTH"), *changed}
-    broken = [it for it in rows_of(pack / "data/cpi.sdmx.csv") if it["OBS_STATUS"] == "B" and it["COICOP18"] in SETS]
-    broken = [it for it in broken if (it["FREQ"], it["MEASURE"]) == ("M", "CPI")]
-    assert {(it["TIME_PERIOD"], it["COICOP18"]) for it in broken} == marked and len(broken) == len(marked)
+    broken = [
+        row for row in rows_of(pack / "data/cpi.sdmx.csv") if row["OBS_STATUS"] == "B" and row["COICOP18"] in SETS
+    ]
+    broken = [row for row in broken if (row["FREQ"], row["MEASURE"]) == ("M", "CPI")]
+    assert {(row["TIME_PERIOD"], row["COICOP18"]) for row in broken} == marked and len(broken) == len(marked)
     told = words_of(pack / "node/FRUIT.html")
     assert "Break: from January 2027 on, December 2026 = 100." in told
     told = words_of(pack / "node/SOUTH.html")
@@ -252,7 +256,7 @@ def test_a_set_goes_on_from_the_published_december() -> None:
         Published(it.listed, it.table + b"".join(below(line) for line in it.table.splitlines() if line[:2] != b"00"))
         for it in over_another_december()
     ]
-    tables = [it._replace(table=b"".join(sorted(it.table.splitlines(keepends=True)))) for it in tables]
+    tables = [table._replace(table=b"".join(sorted(table.table.splitlines(keepends=True)))) for table in tables]
     series = series_of(tables, [Special("EVERY", "All", ("00",))])
     last, whole = series.row("2027-01", "EVERY"), series.row("2027-01", "00")
     assert last and whole and (last.within, last.chained) == (104 * 10**6, 109_200_000)
@@ -265,7 +269,7 @@ def below(line: bytes) -> bytes:
 
 
 def test_what_is_in_a_set_is_listed_by_year(pack: Path, months: dict[str, dict[str, Elementary]]) -> None:
-    found = {
+    weights = {
         (row["id"], row["year"], row["code"]): row["weight"] for row in rows_of(pack / "data/aggregate-members.csv")
     }
     wanted = {
@@ -275,7 +279,7 @@ def test_what_is_in_a_set_is_listed_by_year(pack: Path, months: dict[str, dict[s
         for code, row in rows.items()
         if is_in(code)
     }
-    assert found == wanted
+    assert weights == wanted
 
 
 # ---- pages

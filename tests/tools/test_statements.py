@@ -137,14 +137,14 @@ def named(published: list[Published], tmp_path_factory: pytest.TempPathFactory) 
 
 def sentences(lines: list[str]) -> list[str]:
     """Those of a special aggregate and of core inflation."""
-    (found,) = [it for it in lines if it.startswith("The index of")]
-    return re.split(r"(?<=month\.) ", found)
+    (sentences,) = [line for line in lines if line.startswith("The index of")]
+    return re.split(r"(?<=month\.) ", sentences)
 
 
 def changes_in(pack: Path, file: str, month: str, id: str, columns: tuple[str, str]) -> tuple[str, str]:
     with (pack / "data" / file).open(encoding="utf-8", newline="") as rows:
-        (row,) = [it for it in csv.DictReader(rows) if (it["month"], it.get("id", it.get("code"))) == (month, id)]
-    monthly, annual = (signed(row[it]) for it in columns)
+        (row,) = [row for row in csv.DictReader(rows) if (row["month"], row.get("id", row.get("code"))) == (month, id)]
+    monthly, annual = (signed(row[column]) for column in columns)
     return annual, monthly
 
 
@@ -156,8 +156,12 @@ def signed(text: str) -> str:
 @pytest.mark.parametrize("name", [f"{REVISED}-r1", f"{REVISED}-r2", "2027-02-r1"])
 def test_named_figures_are_those_of_the_day(published: list[Published], named: Path, tmp_path: Path, name: str) -> None:
     """A pack that was made on the day of the release is the other way to them; shares of items that rise are no changes."""
-    (of,) = (it for it in published if it.name == f"{name}.csv")
-    then = made([it for it in published if it.listed.moment <= of.listed.moment], tmp_path / "then", NAMED)
+    (of,) = (publication for publication in published if publication.name == f"{name}.csv")
+    then = made(
+        [publication for publication in published if publication.listed.moment <= of.listed.moment],
+        tmp_path / "then",
+        NAMED,
+    )
     month, core = name[:7], ("monthly", "annual")
     annual, monthly = changes_in(then, "aggregates.csv", month, "REST", ("month_change", "year_change"))
     mean, by_month = changes_in(then, "core.csv", month, "MEDIAN", core)
@@ -170,7 +174,7 @@ def test_named_figures_are_those_of_the_day(published: list[Published], named: P
 
 
 def test_a_revision_is_told_with_its_reason(named: Path) -> None:
-    of, after = (" ".join(text_of(named, it)) for it in (f"{REVISED}-r2", "2026-04-r1"))
+    of, after = (" ".join(text_of(named, text)) for text in (f"{REVISED}-r2", "2026-04-r1"))
     assert re.search(r"This release revises March 2026: the index .*? before\. Reason: A shop was late\.", of)
     assert re.search(r"After the release of March 2026, March 2026 was revised: .*? Reason: A shop was late\.", after)
     assert "revise" not in " ".join(text_of(named, f"{REVISED}-r1"))
@@ -181,7 +185,7 @@ def test_earlier_releases_say_nothing_of_what_is_named_later(published: list[Pub
     later = made(published, tmp_path / "later", NAMED._replace(press_since="2027-01"))
     assert "All items without" not in " ".join(text_of(later, "2026-12-r1"))
     assert len(sentences(text_of(later, "2027-01-r1"))) == 2
-    last = max(it.listed.moment for it in published)
+    last = max(publication.listed.moment for publication in published)
     other = NAMED._replace(press=("REST",), reasons=(Reason("REST", 2, "Alcohol was left out.", last),))
     again = made(published, tmp_path / "again", other)
     assert not [it for it in text_of(again, "2026-12-r1") if it.startswith("The index of")]

@@ -65,5 +65,5 @@ def test_the_quotes_of_several_series_are_those_of_each(cpi: Cpi, tmp_path: Path
     quotes = office.quotes_of_series(SLOTS)
     assert set(quotes) == {(7, 1), (8, 1)}
     for slot in quotes:
-        assert quotes[slot] == {month: it[:2] for month, it in office.quotes_of_slot(slot).items()}
+        assert quotes[slot] == {month: quote[:2] for month, quote in office.quotes_of_slot(slot).items()}
     assert list(quotes[7, 1]) == sorted(quotes[7, 1]) and office.quotes_of_series([]) == {}

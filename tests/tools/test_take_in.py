@@ -142,7 +142,7 @@ def problems(folder: Path) -> list[Cell]:
 
 def told_of(folder: Path, kind: str) -> list[dict[str, str]]:
     """What the last check told: each `problem`, or each `warning`."""
-    return [it for it in rows_of(folder / "check" / "problems.csv") if it["kind"] == kind]
+    return [row for row in rows_of(folder / "check" / "problems.csv") if row["kind"] == kind]
 
 
 def because(folder: Path) -> dict[tuple[str, str, str], str]:
@@ -470,7 +470,11 @@ def test_prices_by_outlet_and_item_in_a_column_a_month(cpi: Cpi, tmp_path: Path)
     office = replayed(cpi, tmp_path / "records", tmp_path / "office.db")
     with stored_office(office) as stored:
         assert stored.keys() == {int(number): key for number, key in drawn.items()}
-        assert [it[:4] for it in stored.assignments()] == [(7, 1, 10, "RICE"), (7, 2, 10, "FLOUR"), (8, 1, 11, "RICE")]
+        assert [assignment[:4] for assignment in stored.assignments()] == [
+            (7, 1, 10, "RICE"),
+            (7, 2, 10, "FLOUR"),
+            (8, 1, 11, "RICE"),
+        ]
         assert stored.plans()[0].places == {"FLOUR": "01.1.1.2-01", "RICE": "01.1.1.1-01"}
     # (103.636364 * 333,333 + 105 * 666,667) / 1,000,000
     assert tables(cpi, office)["2026-01", 1].startswith("00,1000000,104.545455,")
@@ -510,7 +514,7 @@ def test_a_price_after_a_hand_over_goes_to_the_new_slot(cpi: Cpi, tmp_path: Path
     ]
     assert run(cpi, "take-in", written(tmp_path / "wide", of), "--write", tmp_path / "records").status == 0
     assert run(cpi, "take-in", written(tmp_path / "long", sheets()), "--write", tmp_path / "others").status == 0
-    wide, long = (replayed(cpi, tmp_path / it, tmp_path / f"{it}.db") for it in ("records", "others"))
+    wide, long = (replayed(cpi, tmp_path / text, tmp_path / f"{text}.db") for text in ("records", "others"))
     assert tables(cpi, wide) == tables(cpi, long)
 
 
@@ -611,7 +615,7 @@ def test_months_in_other_spellings_are_read_and_told_once_for_each_column(cpi: C
     ]
     assert run(cpi, "take-in", folder, "--write", tmp_path / "records").status == 0
     assert run(cpi, "take-in", written(tmp_path / "plain", sheets()), "--write", tmp_path / "others").status == 0
-    found, wanted = (replayed(cpi, tmp_path / it, tmp_path / f"{it}.db") for it in ("records", "others"))
+    found, wanted = (replayed(cpi, tmp_path / text, tmp_path / f"{text}.db") for text in ("records", "others"))
     assert tables(cpi, found) == tables(cpi, wanted)
 
 
@@ -651,8 +655,8 @@ def test_weights_that_do_not_add_up_to_all_are_told(
     of["classification"][6][3], of["classification"][8][3] = weights
     folder = written(tmp_path / "office", of)
     assert run(cpi, "take-in", folder, "--check", "--weights", unit).status == status
-    found = [it["because"] for it in told_of(folder, "problem" if status else "warning")]
-    assert told in found if told else not found
+    becauses = [it["because"] for it in told_of(folder, "problem" if status else "warning")]
+    assert told in becauses if told else not becauses
 
 
 def test_the_page_has_texts_as_texts_and_no_key(cpi: Cpi, tmp_path: Path) -> None:
@@ -691,7 +695,7 @@ def standing(cpi: Cpi, tmp_path: Path) -> Path:
 
 def sums(file: Path) -> dict[str, str]:
     """The SHA-256 of a file and of what lies beside it under its name."""
-    return {it.name: hashlib.sha256(it.read_bytes()).hexdigest() for it in file.parent.glob(f"{file.name}*")}
+    return {path.name: hashlib.sha256(path.read_bytes()).hexdigest() for path in file.parent.glob(f"{file.name}*")}
 
 
 def test_more_is_added_to_an_office_whose_file_keeps_its_bytes(cpi: Cpi, standing: Path, tmp_path: Path) -> None:
@@ -804,7 +808,7 @@ def test_two_series_that_are_alike_keep_their_slots(cpi: Cpi, standing: Path, tm
         records = tmp_path / f"added-{number}"
         assert run(cpi, "take-in", folder, "--onto", standing, "--write", records).status == 0
         with stored_office(replayed(cpi, records, standing)) as stored:
-            assert sorted(it.slot for it in stored.assignments() if it.collector == 8) == slots
+            assert sorted(assignment.slot for assignment in stored.assignments() if assignment.collector == 8) == slots
     assert [os.listdir(tmp_path / f"added-{number}") for number in range(2)] == [["records-01.csv"], []]
 
 
@@ -871,12 +875,12 @@ def test_more_records_than_one_run_takes(cpi: Cpi, tmp_path: Path) -> None:
         taken = OfficeFiles(source, Options(), NOTHING, lambda _: {}, is_new=True).in_order()
         assert 10 < len([*taken.bundles]) <= taken.bundles.most
         told.append(Judge(cpi, "UTC0", False, ()).judge(taken, most=most))
-    assert told[0] == told[1] and [it.number for it in told[0].problems] == ["26", "49 fault 2", "46"]
+    assert told[0] == told[1] and [problem.number for problem in told[0].problems] == ["26", "49 fault 2", "46"]
 
 
 def test_imports_and_files_are_cut_at_their_limits() -> None:
     rows = [Sent(["outlet", str(at), "x"], Origin("outlets.csv", at), ("outlet", "name")) for at in range(40_001)]
-    assert [len(it.rows) for it in make_bundles(0, "desk", rows)] == [20_000, 20_000, 1]
+    assert [len(bundle.rows) for bundle in make_bundles(0, "desk", rows)] == [20_000, 20_000, 1]
     parts = part_bundles((Bundle(at, "desk", rows[:1]) for at in range(5)), 2)
     assert [[it.at for it in part] for part in parts] == [[0, 1], [2, 3], [4]]
     assert Bundle(5, "desk", rows[:1], is_single=True).line() == "5,desk,outlet,0,x"

@@ -161,7 +161,7 @@ def test_files_and_lines_stay_in_english(cpi: Cpi, tmp_path: Path, language: str
         assert english.err.replace("/en/", "/") == other.err.replace("/xx/", "/")
         for file in (tmp_path / "en").glob("*.csv"):
             assert file.read_bytes() == (tmp_path / "xx" / file.name).read_bytes(), file.name
-        pages = [(tmp_path / it / "report.html").read_text(encoding="utf-8") for it in ("en", "xx")]
+        pages = [(tmp_path / text / "report.html").read_text(encoding="utf-8") for text in ("en", "xx")]
         assert pages[0].count("<tr>") == pages[1].count("<tr>") > 3
         assert f'<html lang="{language}"' in pages[1] and ('dir="rtl"' in pages[1]) == (language == "ar")
 

@@ -26,9 +26,9 @@ def stored(file: Path, table: str) -> list[tuple[Any, ...]]:
     """The rows of a table, without receipts, which are counted anew."""
     with sqlite3.connect(file) as link:
         names = [row[1] for row in link.execute(f"PRAGMA table_info({table})") if row[1] != "receipt"]
-        found = sorted(link.execute(f"SELECT {', '.join(names)} FROM {table}"), key=str)
+        rows = sorted(link.execute(f"SELECT {', '.join(names)} FROM {table}"), key=str)
     link.close()
-    return found
+    return rows
 
 
 def again(cpi: Cpi, folder: Path, *words: object) -> Path:
@@ -49,7 +49,7 @@ def test_out_and_in_again(cpi: Cpi, office: Path, tmp_path: Path) -> None:
         f"cpi-tools take-out: {tmp_path / 'files/collectors.csv'} has the collectors' keys\n",
     )
     assert ran.out.startswith(f"{tmp_path / 'files'}: items 4, outlets 1, collectors 3, series 208, ")
-    assert {stat.S_IMODE(it.stat().st_mode) for it in (tmp_path / "files").iterdir()} == {0o600}
+    assert {stat.S_IMODE(path.stat().st_mode) for path in (tmp_path / "files").iterdir()} == {0o600}
     corrected = [row for row in rows_of(tmp_path / "files/prices.csv") if row["revision"] == "2"]
     assert [(row["month"], row["slot"]) for row in corrected] == [("2025-03", "1"), ("2025-03", "2")]
     other = again(cpi, tmp_path / "files")
@@ -131,7 +131,7 @@ def test_a_file_that_is_no_office(cpi: Cpi, tmp_path: Path, content: Any) -> Non
         (tmp_path / "no.db").write_bytes(content)
     ran = run(cpi, "take-out", tmp_path / "no.db", tmp_path / "files")
     assert (ran.status, ran.out, ran.err.count("\n")) == (1, "", 1)
-    assert {it.name for it in tmp_path.iterdir()} <= {"no.db"}
+    assert {path.name for path in tmp_path.iterdir()} <= {"no.db"}
 
 
 def test_nothing_takes_the_place_of_a_folder(cpi: Cpi, office: Path, tmp_path: Path) -> None:
@@ -187,7 +187,7 @@ def test_series_without_their_slots_keep_those_that_they_have(cpi: Cpi, office: 
     (tmp_path / "one").mkdir()
     series = rows_of(tmp_path / "files/series.csv")
     handed = rows_of(tmp_path / "files/handovers.csv")
-    assert {(it["collector"], it["slot"]) for it in handed} <= {(it["collector"], it["slot"]) for it in series}
+    assert {(row["collector"], row["slot"]) for row in handed} <= {(row["collector"], row["slot"]) for row in series}
     columns = [name for name in series[0] if name != "slot"]
     rows = [",".join(columns), *(",".join(row[name] for name in columns) for row in series)]
     (tmp_path / "one/series.csv").write_text("\n".join(rows), encoding="utf-8")
@@ -213,5 +213,5 @@ def test_what_differs_from_what_was_taken_out_is_sent(cpi: Cpi, office: Path, tm
     assert first.endswith(",")
     releases.write_text("\n".join([heads, f"{first}01.1.1.1-01", *others]) + "\n", encoding="utf-8")
     assert run(cpi, "take-in", tmp_path / "files", "--onto", office, "--check").status == 1
-    told = [(it["file"], it["row"]) for it in rows_of(tmp_path / "files/check/problems.csv")]
+    told = [(row["file"], row["row"]) for row in rows_of(tmp_path / "files/check/problems.csv")]
     assert told[0] == ("releases.csv", "2")

@@ -95,7 +95,7 @@ def test_a_definition_that_is_gone_is_named(clone: Path) -> None:
 def test_an_import_of_a_name_that_is_only_bound_is_found(clone: Path) -> None:
     """`changes` of Runs would add what it rests on to each count, though the file has only an argument of that name."""
     path = clone / "crates/cpi_office/specs/ProjectedChanges.antt"
-    assert not [*import_faults(path)] and any(it.name == "changes" for it in definitions_of())
+    assert not [*import_faults(path)] and any(definition.name == "changes" for definition in definitions_of())
     path.write_text("use Rattle.cpi_office.specs.Runs.{changes}\n" + path.read_text("utf-8"), encoding="utf-8")
     told = "cpi_office/specs/ProjectedChanges.antt imports changes of Runs, and has only an argument of that name"
     assert [*import_faults(path)] == [told]

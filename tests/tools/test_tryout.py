@@ -57,7 +57,7 @@ def test_on_each_day_of_a_year_all_announced_moments_are_those_of_the_office(yea
         published, window = tables_before(month), opened(month)
         planned = read_planned(write_announced(tmp_path, published, [window]), CET)
         moments = {(it.month, it.revision): it.moment for it in planned}
-        assert {(it.month, it.revision): it.moment for it in published}.items() <= moments.items()
+        assert {(listing.month, listing.revision): listing.moment for listing in published}.items() <= moments.items()
         assert moments[text_of(month), 1] == window.publishes and len(moments) == len(published) + 1 + MONTHS_AHEAD
         coming = [it for it in planned if it.moment > CET.moment(f"{text_of(month)}-01T00:00")]
         assert [it.month for it in coming] == [text_of(later_month(month, by)) for by in range(MONTHS_AHEAD + 1)]
@@ -149,7 +149,7 @@ def test_keys_are_drawn_once_and_only_their_owner_reads_them(tmp_path: Path) -> 
     text = supervisors.read_bytes()
     assert kept_supervisors(tmp_path).read_bytes() == text
     rows = read_supervisors(supervisors)
-    assert rows[0].has_all and rows[0].key == first_key(supervisors) and len({key, *(it.key for it in rows)}) == 4
+    assert rows[0].has_all and rows[0].key == first_key(supervisors) and len({key, *(row.key for row in rows)}) == 4
     assert all((tmp_path / name).stat().st_mode & 0o077 == 0 for name in (DESK_KEY, supervisors.name))
     (tmp_path / DESK_KEY).write_text("none")
     with pytest.raises(Fault, match="desk-key contains no key of 32 characters 0-9 and a-f: remove it, and another"):

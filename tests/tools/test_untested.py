@@ -68,8 +68,8 @@ def test_a_copy_counts_if_it_has_the_same_bytes(notes: Path, tmp_path: Path) -> 
     with (copies / "text/exact.py").open("a", encoding="utf-8") as file:
         file.write("# another one\n")
     assert run(notes, copies.parent, "import cpi_tools.desk.keys.keys_cli, cpi_tools.text.exact") == 0
-    found = lines_of(str(notes))
-    assert "desk/keys/keys_cli.py" in found and "text/exact.py" not in found
+    lines = lines_of(str(notes))
+    assert "desk/keys/keys_cli.py" in lines and "text/exact.py" not in lines
 
 
 def test_a_process_that_reads_no_tools_notes_nothing(notes: Path) -> None:

@@ -211,8 +211,8 @@ def test_the_folders_of_an_office_are_made_and_empty_ones_go(package: Path, tmp_
     dpkg(tmp_path, "--install", package)
     user = next(line for line in read(tmp_path, "etc/passwd").splitlines() if line.startswith("cpi:")).split(":")
     folders = {name: (tmp_path / "var/lib" / name).stat() for name in ("cpi", "cpi-backup", "cpi-site")}
-    assert {(str(it.st_uid), str(it.st_gid)) for it in folders.values()} == {(user[2], user[3])}
-    assert {name: it.st_mode & 0o777 for name, it in folders.items()} == {
+    assert {(str(folder.st_uid), str(folder.st_gid)) for folder in folders.values()} == {(user[2], user[3])}
+    assert {name: folder.st_mode & 0o777 for name, folder in folders.items()} == {
         "cpi": 0o700, "cpi-backup": 0o700, "cpi-site": 0o755,
     }  # fmt: skip
     (tmp_path / "var/lib/cpi-site").chmod(0o775)

@@ -23,9 +23,9 @@ WHICH = {
 def table_of(guide: str, heading: str) -> list[tuple[str, ...]]:
     """The rows of the first table behind a heading, without its head; a link is its text."""
     text = (DOCS / guide).read_text(encoding="utf-8").partition(heading)[2]
-    found = re.search(r"^\|.*?\n\n", f"{text}\n\n", re.M | re.S)
-    assert found, f"{guide} has no table behind {heading}"
-    rows = re.sub(r"\[([^]]*)\]\([^)]*\)", r"\1", found[0]).strip().splitlines()[2:]
+    match = re.search(r"^\|.*?\n\n", f"{text}\n\n", re.M | re.S)
+    assert match, f"{guide} has no table behind {heading}"
+    rows = re.sub(r"\[([^]]*)\]\([^)]*\)", r"\1", match[0]).strip().splitlines()[2:]
     return [tuple(cell.strip() for cell in row.strip("|").split("|")) for row in rows]
 
 

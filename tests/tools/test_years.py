@@ -212,9 +212,9 @@ def test_how_many_years_is_a_number(tmp_path: Path) -> None:
 def test_the_next_packs_are_the_packs_from_nothing(published: list[Published], tmp_path: Path) -> None:
     out, kept = tmp_path / "public", tmp_path / "kept.json"
     tables = sorted(published)
-    last = [number for number, it in enumerate(tables, 1) if it.listed.month == "2026-12"][0]
+    last = [number for number, table in enumerate(tables, 1) if table.listed.month == "2026-12"][0]
     other = CONFIG._replace(reference="2026")
-    old = next(it for it in tables if it.listed.month == "2025-05")
+    old = next(table for table in tables if table.listed.month == "2025-05")
     runs = [
         (tables[: last - 1], CONFIG, 0),  # (up to November 2026)
         (tables[:last], CONFIG, 1),
@@ -296,7 +296,7 @@ def test_lines_of_months_that_were_provisional_are_written_anew(
     published: list[Published], tmp_path: Path, monkeypatch: pytest.MonkeyPatch
 ) -> None:
     config, tables = CONFIG._replace(provisional=3), sorted(published)
-    first = [number for number, it in enumerate(tables, 1) if it.listed.month == "2027-01"][-1]
+    first = [number for number, table in enumerate(tables, 1) if table.listed.month == "2027-01"][-1]
     out, kept = written(tables[:first], config, tmp_path / "public"), tmp_path / "kept.json"
     made = lines_written(monkeypatch)
     months_made = []
@@ -349,7 +349,7 @@ def test_the_files_of_data_get_the_lines_of_the_new_month(
     published: list[Published], tmp_path: Path, monkeypatch: pytest.MonkeyPatch
 ) -> None:
     tables, out, kept = sorted(published), tmp_path / "public", tmp_path / "kept.json"
-    first = [number for number, it in enumerate(tables, 1) if it.listed.month == "2027-02"][-1]
+    first = [number for number, table in enumerate(tables, 1) if table.listed.month == "2027-02"][-1]
     written(tables[:first], CONFIG, out)
     made = asked(monkeypatch)
     for number in range(first + 1, len(tables) + 1):
@@ -359,7 +359,7 @@ def test_the_files_of_data_get_the_lines_of_the_new_month(
         month = tables[number - 1].listed.month
         # (of the releases' pages only the months with an earlier revision are looked at)
         assert month in made.pop("shown") <= {month, REVISED}
-        assert made == {name: {month} for name in ("lines", *(it.name for it in KINDS))}
+        assert made == {name: {month} for name in ("lines", *(kind.name for kind in KINDS))}
         assert [*differences(out, anew(tables[:number], CONFIG, tmp_path / f"first{number}" / "public", kept))] == []
 
 
@@ -367,7 +367,7 @@ def test_a_new_full_year_is_added_to_the_averages(
     published: list[Published], tmp_path: Path, monkeypatch: pytest.MonkeyPatch
 ) -> None:
     """With December a year has an average; the lines of the years before stay."""
-    tables = [it for it in sorted(published) if it.listed.month <= "2026-12"]
+    tables = [publication for publication in sorted(published) if publication.listed.month <= "2026-12"]
     out, kept = written(tables[:-1], CONFIG, tmp_path / "public"), tmp_path / "kept.json"
     keep(out, kept)
     computed = set[int]()
@@ -414,7 +414,7 @@ def test_what_lines_are_made_of_makes_them_anew(
     if change == "a title":
         tables = [*tables[:-1], retitled(tables[-1])]
     elif change == "a revision":
-        old = next(it for it in tables if it.listed.month == "2027-02")
+        old = next(table for table in tables if table.listed.month == "2027-02")
         tables = sorted([*tables, revised(old, "01.1.1.1-01")])
     elif change == "the reference period":
         config = config._replace(reference="2026")
@@ -425,7 +425,7 @@ def test_what_lines_are_made_of_makes_them_anew(
     made = asked(monkeypatch)
     with formulas_told("publish", True) if change == "safe" else contextlib.nullcontext():
         written(tables, config, out)
-        months = {it.listed.month for it in tables if it.listed.month > "2026-12"}
+        months = {table.listed.month for table in tables if table.listed.month > "2026-12"}
         assert months <= made["lines"] and months <= made[PRINTED.name]
         assert [*differences(out, anew(tables, config, tmp_path / "first" / "public", kept))] == []
 
@@ -435,7 +435,7 @@ def test_a_formula_in_a_line_that_is_kept_is_told(
 ) -> None:
     """A title that only tables of earlier months have, in lines that the pack before wrote."""
     tables = sorted(published)
-    old = next(number for number, it in enumerate(tables) if it.listed.month == "2027-02")
+    old = next(number for number, table in enumerate(tables) if table.listed.month == "2027-02")
     tables[old] = Published(tables[old].listed, tables[old].table.replace(b'"Rice, packed"', b"=1+1"))
     out = tmp_path / "public"
     for some in (tables[:-1], tables):
@@ -491,7 +491,9 @@ def test_the_tool_is_another_one_with_other_catalogues(tmp_path: Path, monkeypat
 
 def test_a_title_with_an_end_of_line_hides_no_line(published: list[Published], tmp_path: Path) -> None:
     title = b'"Rice\n2027-01,1,x"'
-    tables = sorted(Published(it.listed, it.table.replace(b'"Rice, packed"', title)) for it in published)
+    tables = sorted(
+        Published(publication.listed, publication.table.replace(b'"Rice, packed"', title)) for publication in published
+    )
     assert title in tables[-1].table
     out, kept = written(tables[:-1], CONFIG, tmp_path / "public"), tmp_path / "kept.json"
     keep(out, kept)

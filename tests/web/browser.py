@@ -179,12 +179,12 @@ class Browser:
         self.driver.get(self.url + path)
 
     def find(self, selector: str) -> WebElement:
-        found: WebElement = self.driver.find_element(By.CSS_SELECTOR, selector)
-        return found
+        element: WebElement = self.driver.find_element(By.CSS_SELECTOR, selector)
+        return element
 
     def all(self, selector: str) -> list[WebElement]:
-        found: list[WebElement] = self.driver.find_elements(By.CSS_SELECTOR, selector)
-        return found
+        elements: list[WebElement] = self.driver.find_elements(By.CSS_SELECTOR, selector)
+        return elements
 
     def click(self, selector: str) -> None:
         """A click, with what is clicked in the middle of the window, where what sticks to its edges doesn't hide it. If
@@ -226,8 +226,8 @@ class Browser:
 
     def text(self, selector: str) -> str:
         """The text that a user sees, or none."""
-        found: str = self.run("return document.querySelector(arguments[0])?.innerText ?? ''", selector)
-        return found
+        text: str = self.run("return document.querySelector(arguments[0])?.innerText ?? ''", selector)
+        return text
 
     # ---- waiting
 

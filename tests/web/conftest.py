@@ -109,8 +109,8 @@ def years(browser: Browser, stage: Stage, of_years: Path) -> Browser:
 @pytest.fixture
 def pages(stage: Stage, tmp_path: Path) -> Iterator[DeskPages]:
     """The desk's application over a fresh office."""
-    with desk_pages(stage, tmp_path) as it:
-        yield it
+    with desk_pages(stage, tmp_path) as pages:
+        yield pages
 
 
 @pytest.fixture

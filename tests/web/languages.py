@@ -65,8 +65,8 @@ class Words:
     def counted(self, one: str, many: str, count: int) -> str:
         """A text in the form that the language has for a count, by Babel's copy of CLDR."""
         category = Locale.parse(self.speech.language, sep="-").plural_form(count)
-        found = self._texts.get(one, [one, many])
-        return self._filled(found[self._forms[category]], {"count": str(count)})
+        text = self._texts.get(one, [one, many])
+        return self._filled(text[self._forms[category]], {"count": str(count)})
 
     def _filled(self, text: str, values: dict[str, str]) -> str:
         for name, value in values.items():

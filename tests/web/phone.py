@@ -82,8 +82,8 @@ class Phone:
         """The receipt of a slot of the month that is shown, if the list says that it is stored: the form has its number."""
         if self.said("Stored", context="state of a row") not in self.told(slot).split("\n"):
             return None
-        found: Optional[int] = self.browser.run_until(RECEIPT, slot)
-        return found
+        receipt: Optional[int] = self.browser.run_until(RECEIPT, slot)
+        return receipt
 
     def wait_receipt(self, slot: int, number: int) -> None:
         """Waits until the list says that a slot is stored, by this receipt."""
@@ -120,8 +120,8 @@ class Phone:
 
     def month(self) -> str:
         """The month that is shown, as `2026-11`."""
-        found: str = self.browser.run_until("return (await import('/collect/state.js')).state.month")
-        return found
+        month: str = self.browser.run_until("return (await import('/collect/state.js')).state.month")
+        return month
 
     def refuse_correction(self) -> None:
         """Corrects slot 1 of last month, whose window has closed: the office has 3.20, and refuses 3.10 by 24."""
@@ -206,8 +206,8 @@ class Phone:
 
     def places(self) -> dict[str, float]:
         """Where each row begins, in pixels from the top of the window."""
-        found: dict[str, float] = self.browser.run_until(PLACES)
-        return found
+        places: dict[str, float] = self.browser.run_until(PLACES)
+        return places
 
     def focused(self) -> str:
         """What has the focus: the id of an element, or the slot of a row."""

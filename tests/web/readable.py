@@ -190,15 +190,15 @@ return found;
 
 def faults_of_texts(browser: Browser, texts: Sequence[str]) -> list[str]:
     """What is wrong with a page that has texts of others: each has to be isolated, and none turns our own."""
-    found: list[str] = [*browser.run(TURNED), *browser.run(BARE, texts)]
-    return found
+    faults: list[str] = [*browser.run(TURNED), *browser.run(BARE, texts)]
+    return faults
 
 
 def faults_for_keys(browser: Browser) -> list[str]:
     """What is wrong with a page for a person who uses only a keyboard."""
     browser.in_front()
-    found: list[str] = browser.run(FOCUS)
-    return found
+    faults: list[str] = browser.run(FOCUS)
+    return faults
 
 
 def faults_enlarged(browser: Browser) -> list[str]:
@@ -261,17 +261,17 @@ return found;
 
 def faults_of_page(browser: Browser) -> list[str]:
     """What is wrong with what is seen of a page, each in a line, and what the page said against itself."""
-    found: list[str] = [*browser.run(CONTRASTS), *browser.run(EDGES), *browser.run(NAMELESS)]
-    return [*found, *browser.run(SMALL, LEAST_PIXELS), *browser.run(WIDE), *browser.faults()]
+    faults: list[str] = [*browser.run(CONTRASTS), *browser.run(EDGES), *browser.run(NAMELESS)]
+    return [*faults, *browser.run(SMALL, LEAST_PIXELS), *browser.run(WIDE), *browser.faults()]
 
 
 def faults_at_sizes(browser: Browser, texts: Sequence[str]) -> list[str]:
     """What is wrong with a page, wide and narrow, light and dark, for a keyboard, and with its texts of others."""
-    found = list[str]()
+    faults = list[str]()
     for width in (360, 1280):
         browser.size(width, 900)
         for scheme in ("light", "dark"):
             browser.shown_as(scheme)
-            found += [f"at {width}, {scheme}: {fault}" for fault in faults_of_page(browser)]
+            faults += [f"at {width}, {scheme}: {fault}" for fault in faults_of_page(browser)]
     browser.shown_as("light")
-    return [*found, *faults_for_keys(browser), *faults_of_texts(browser, texts)]
+    return [*faults, *faults_for_keys(browser), *faults_of_texts(browser, texts)]

@@ -18,5 +18,5 @@ def stored(stage: Stage, slot: int, key: str = ANNA) -> list[tuple[Any, ...]]:
 
 def next_receipt(stage: Stage) -> int:
     """The receipt that one more entry of Anna's gets: it tells how many were given."""
-    found: int = stage.ask("PUT", f"/api/quote/4/{NOW}", ANNA, "price,101").reply["receipt"]
-    return found
+    receipt: int = stage.ask("PUT", f"/api/quote/4/{NOW}", ANNA, "price,101").reply["receipt"]
+    return receipt

@@ -173,15 +173,15 @@ class Stage:
 
     def quotes(self, key: str, month: str = NOW) -> list[list[Any]]:
         """What the office has stored of a collector's month."""
-        found: list[list[Any]] = self.ask("GET", f"/api/quotes/{month}/{month}", key).reply["quotes"]
-        return found
+        quotes: list[list[Any]] = self.ask("GET", f"/api/quotes/{month}/{month}", key).reply["quotes"]
+        return quotes
 
     def wait_for_quotes(self, key: str, seconds: float = 60) -> list[list[Any]]:
         """The same, once there are any."""
         begun = time.monotonic()
-        while not (found := self.quotes(key)) and time.monotonic() - begun < seconds:
+        while not (quotes := self.quotes(key)) and time.monotonic() - begun < seconds:
             time.sleep(0.1)  # (the front takes 20 requests a second)
-        return found
+        return quotes
 
     def logs(self, requests: int = 1) -> str:
         """What the front has written down, once so many requests stand there: it writes behind its replies."""

@@ -73,8 +73,10 @@ def test_each_figure_is_the_offices(shown: Browser, website: Path) -> None:
     codes = list(dict.fromkeys(row["code"] for row in rows_of(website / "data/cpi.csv")))
     words = ("index", "year", "month", "contribution-year", "contribution-month", "weight")
     opened(shown, f"?items={'+'.join(codes)}&show={'+'.join(words)}&decimals=all")
-    given = {(it["month"], it["code"]): it for it in rows_of(website / "data/contributions.csv") if it["of"] == "00"}
-    figures = {(it["month"], it["code"]): it for it in rows_of(website / "data/cpi.csv")}
+    given = {
+        (row["month"], row["code"]): row for row in rows_of(website / "data/contributions.csv") if row["of"] == "00"
+    }
+    figures = {(row["month"], row["code"]): row for row in rows_of(website / "data/cpi.csv")}
     # (all items give their own change: of the first two months of a year, by their indices within it)
     first, second = (Decimal(figures[month, "00"]["index"]) for month in ("2011-01", "2011-02"))
     of_all = {"2011-01": f"{first - 100}", "2011-02": f"{round(100 * (second - first) / first, 6)}"}
@@ -122,7 +124,9 @@ def test_a_picture_is_read_out_by_the_keys(shown: Browser) -> None:
 def test_a_revision_and_its_marks(shown: Browser, website: Path) -> None:
     """February 2011 was revised: rice from (214 + 260) / 440 to (214 + 270) / 440."""
     rows = [
-        it for it in rows_of(website / "data/vintages.csv") if (it["month"], it["code"]) == ("2011-02", "01.1.1.1-01")
+        row
+        for row in rows_of(website / "data/vintages.csv")
+        if (row["month"], row["code"]) == ("2011-02", "01.1.1.1-01")
     ]
     search = "?items=01.1.1.1-01&decimals=all"
     for more, at in (("", 1), ("&revision=1", 0), ("&revision=2", 1), (f"&revision={rows[0]['published']}", 0)):
@@ -253,11 +257,11 @@ def test_the_figures_are_taken_home(shown: Browser, website: Path) -> None:
     opened(shown, "?items=00+01.1.1.2-01&show=index+contribution-month&to=2011-01")
     link = shown.find("#file")
     assert link.get_attribute("download") == "cpi-2011-01-2011-01.csv"
-    whole = {it["code"]: it for it in rows_of(website / "data/cpi.csv") if it["month"] == "2011-01"}
+    whole = {row["code"]: row for row in rows_of(website / "data/cpi.csv") if row["month"] == "2011-01"}
     given = {
-        it["code"]: it
-        for it in rows_of(website / "data/contributions.csv")
-        if it["month"] == "2011-01" and it["of"] == "00"
+        row["code"]: row
+        for row in rows_of(website / "data/contributions.csv")
+        if row["month"] == "2011-01" and row["of"] == "00"
     }
     rows = [",".join((f"2011-01,1,{whole['00']['published']}", code, title, whole[code]["chained"], "2010-12", points, "0,0"))
             for code, title, points in (("00", "All items", f"{Decimal(whole['00']['index']) - 100}"), ("01.1.1.2-01", '"Flour, wheat"', given["01.1.1.2-01"]["contribution_month"]))]  # fmt: skip

@@ -57,9 +57,11 @@ def taken(browser: Browser, kind: str, name: str, folder: Path) -> bytes:
 
 def values_of(svg: ET.Element, line: str) -> list[float]:
     """The first and the last value of a line, read off by the marks of the axis."""
-    marks = [it for it in svg.iter(f"{SVG}text") if it.get("text-anchor") == "end"]
-    (low, foot), (high, top) = ((float(it.text or ""), float(it.get("y", "")) - 4) for it in (marks[0], marks[-1]))
-    places = [it.split(" ") for it in re.split("[ML]", line)[1:]]
+    marks = [element for element in svg.iter(f"{SVG}text") if element.get("text-anchor") == "end"]
+    (low, foot), (high, top) = (
+        (float(mark.text or ""), float(mark.get("y", "")) - 4) for mark in (marks[0], marks[-1])
+    )
+    places = [word.split(" ") for word in re.split("[ML]", line)[1:]]
     return [low + (high - low) * (foot - float(y)) / (foot - top) for _, y in (places[0], places[-1])]
 
 
@@ -69,22 +71,24 @@ def test_a_picture_is_taken_as_svg(browser: Browser, stage: Stage, later: Path, 
     browser.shown_as("dark")
     opened(browser, f"?items=00+{RICE}&from=2011-01")
     svg = ET.fromstring(taken(browser, "SVG", "cpi-index-2011-01-2013-02.svg", tmp_path))
-    texts = ["".join(it.itertext()).strip("\u2068\u2069") for it in svg.iter(f"{SVG}text")]
+    texts = ["".join(element.itertext()).strip("\u2068\u2069") for element in svg.iter(f"{SVG}text")]
     assert texts[:2] == ["Index", "December 2010 = 100; the axis doesn't begin at zero"] and texts[-3:-1] == [
         "All items",
         "Rice",
     ]
     assert texts[-1].startswith("Source: Office of prices, Consumer price index, up to February")
-    lines = [it.get("d", "") for it in svg.iter(f"{SVG}path") if "L" in it.get("d", "")]
+    lines = [element.get("d", "") for element in svg.iter(f"{SVG}path") if "L" in element.get("d", "")]
     by_colour = {
-        it.get("stroke"): values_of(svg, it.get("d", "")) for it in svg.iter(f"{SVG}path") if it.get("d") in lines
+        element.get("stroke"): values_of(svg, element.get("d", ""))
+        for element in svg.iter(f"{SVG}path")
+        if element.get("d") in lines
     }
     for colour, title in (("#0a5c7d", "All items"), ("#b1521d", "Rice")):
         assert all(abs(value - float(want)) < 0.3 for value, want in zip(by_colour[colour], LEVELS[title])), title
     text = ET.tostring(svg, encoding="unicode")
     assert 'fill="#ffffff"' in text and not re.search("class=|style=|var\\(|NaN|undefined", text)
     high = float(svg.get("height", ""))
-    assert all(0 < float(it.get("y", "")) < high for it in svg.findall(f"{SVG}text"))
+    assert all(0 < float(element.get("y", "")) < high for element in svg.findall(f"{SVG}text"))
     assert browser.faults() == []
 
 
@@ -101,8 +105,8 @@ def test_the_colours_of_a_file_are_those_of_the_page(
       return [hex, strokeDasharray.replace(/px|,/g, "").replace("none", ""), parseFloat(strokeWidth)]; });"""
     shown: list[Any] = browser.run(looks)
     svg = ET.fromstring(taken(browser, "SVG", "cpi-index-2011-01-2013-02.svg", tmp_path))
-    keys = [it for it in svg.findall(f"{SVG}path")]
-    found = [[it.get("stroke"), it.get("stroke-dasharray", ""), float(it.get("stroke-width", ""))] for it in keys]
+    keys = [element for element in svg.findall(f"{SVG}path")]
+    found = [[key.get("stroke"), key.get("stroke-dasharray", ""), float(key.get("stroke-width", ""))] for key in keys]
     assert found == shown and len(found) == 6
 
 

@@ -140,5 +140,5 @@ def test_what_is_copied_has_no_sign_that_nobody_sees(browser: Browser, tmp_path:
     signs = "[\u2066-\u2069\u200e\u200f]"
     assert re.search(signs, browser.run("return document.getElementById('clause-text').textContent"))
     texts = browser.run(COPIED)
-    assert len(texts) == 4 and all("Office of prices" in it for it in texts)
-    assert [it for it in texts if re.search(signs, it)] == []
+    assert len(texts) == 4 and all("Office of prices" in text for text in texts)
+    assert [text for text in texts if re.search(signs, text)] == []

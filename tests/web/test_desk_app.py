@@ -161,7 +161,7 @@ def test_a_reply_that_is_lost_is_looked_up(stage: Stage, ada: Person, browser: B
     ada.send("outlet,77,Lost and found")
     ada.pages.kill()
     kept = DeskLog(log)
-    assert not kept.open_entries() and len([it for it in kept.entries if it.what == "sent"]) == 2
+    assert not kept.open_entries() and len([entry for entry in kept.entries if entry.what == "sent"]) == 2
     kept.close()
 
 
@@ -219,8 +219,8 @@ def test_the_head_of_a_narrow_page_is_two_lines(ada: Person, browser: Browser) -
 
 PATHS = (
     *(
-        f"/month/{MONTH}/{it}"
-        for it in ("", "table", "looks", "freeze", "release", "what-if", "explain/01.1.1.2-01", "explain/01")
+        f"/month/{MONTH}/{text}"
+        for text in ("", "table", "looks", "freeze", "release", "what-if", "explain/01.1.1.2-01", "explain/01")
     ),
     *("/calendar", "/records", "/log", "/nowhere"),
 )

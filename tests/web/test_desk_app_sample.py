@@ -70,12 +70,12 @@ def test_pages_can_be_read_and_no_text_is_more_than_text(ada: Person, browser: B
 
 def faults_of(paths: Sequence[str], ada: Person, browser: Browser) -> list[str]:
     """What is wrong with some pages, wide and narrow, light and dark."""
-    found = list[str]()
+    faults = list[str]()
     for path in paths:
         ada.open(path)
-        found += [f"{path}: {fault}" for fault in faults_at_sizes(browser, HOSTILE)]
+        faults += [f"{path}: {fault}" for fault in faults_at_sizes(browser, HOSTILE)]
         assert browser.driver.title != "owned"
-    return found
+    return faults
 
 
 def test_a_draft_of_the_year_is_changed_judged_and_sent(stage: Stage, ada: Person, browser: Browser) -> None:
@@ -96,7 +96,7 @@ def test_a_draft_of_the_year_is_changed_judged_and_sent(stage: Stage, ada: Perso
     ada.press("#paste button")
     ada.press("form[action$='/check'] button")
     browser.wait_text("#checked", "These changes would be accepted")
-    sheets = [f"/year/2012/?sheet={it}" for it in ("weights", "classification", "series", "few-series")]
+    sheets = [f"/year/2012/?sheet={text}" for text in ("weights", "classification", "series", "few-series")]
     assert faults_of(["/year", *sheets], ada, browser) == []
     ada.open("/year/2012/")
     ada.press("form[action$='/send'] button")

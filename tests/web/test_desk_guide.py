@@ -67,9 +67,9 @@ def steps() -> list[tuple[str, str]]:
     """The steps of the guide: the page of each, and what it says."""
     guide = (ROOT / "docs/desk/DESK.md").read_text(encoding="utf-8")
     part = guide.partition("### A month, step by step\n")[2].partition("\n### ")[0]
-    found = re.findall(r"^\d+\. \*\*(.+?)\*\*: (.*)$", part, re.M)
-    assert len(found) == part.count("\n1. ") + 6 == 7
-    return found
+    matches = re.findall(r"^\d+\. \*\*(.+?)\*\*: (.*)$", part, re.M)
+    assert len(matches) == part.count("\n1. ") + 6 == 7
+    return matches
 
 
 def another(stage: Stage, home: Path) -> Iterator[Browser]:
@@ -240,7 +240,7 @@ def test_a_december_is_closed_by_the_steps_of_the_guide(
     stage.restore({stage.db: office.read_bytes()})
     more = ("--zone", ZONE, "--left-out", "0", "--field-notes", AGES)
     with desk_pages(stage, tmp_path, f"{stage.url}{PREFIX}/", *more) as pages, takes_notes(stage, pages):
-        at_work = ada, ben = [Follower(Person(it, pages)) for it in (browser, second)]
+        at_work = ada, ben = [Follower(Person(browser, pages)) for browser in (browser, second)]
         ada.asks = lambda: asked_and_answered(ada, Phone(third))
         for follower, name in zip(at_work, ("Ada", "Ben")):
             follower.begin(name)

@@ -47,8 +47,8 @@ def pages(stage: Stage, tmp_path: Path) -> Iterator[DeskPages]:
     stage.db.unlink(missing_ok=True)
     stage.start_office()
     relay = f"http://127.0.0.1:{stage.front.place.office_port}"
-    with desk_pages(stage, tmp_path, f"{stage.url}{PREFIX}/", "--office", relay) as it:
-        yield it
+    with desk_pages(stage, tmp_path, f"{stage.url}{PREFIX}/", "--office", relay) as pages:
+        yield pages
 
 
 class Desk:
@@ -153,9 +153,9 @@ def pressed(press: Callable[[], None]) -> None:
 @pytest.fixture
 def desk(stage: Stage, pages: DeskPages, browser: Browser) -> Desk:
     browser.size(1280, 900)
-    found = Desk(stage, pages, browser)
-    found.at.sign_in("Ada")
-    return found
+    desk = Desk(stage, pages, browser)
+    desk.at.sign_in("Ada")
+    return desk
 
 
 def priced(desk: Desk, key: str, *prices: tuple[int, str], asks: int = 0) -> None:

@@ -286,9 +286,9 @@ def test_cards_feed_and_calendar_are_for_other_sites(stage: Stage) -> None:
         (site / name).write_text("text")
     stage.front.stop()
     with standing(Front(stage.front.source, stage.folder, stage.front.place._replace(published=site))):
-        found = [stage.ask("GET", f"/published/{name}").fields for name in names]
-        assert [it.get("Access-Control-Allow-Origin") for it in found] == ["*"] * 3 + [None] * 2
-        assert [it["Cross-Origin-Resource-Policy"] for it in found] == ["cross-origin"] * 3 + ["same-origin"] * 2
+        fields = [stage.ask("GET", f"/published/{name}").fields for name in names]
+        assert [field.get("Access-Control-Allow-Origin") for field in fields] == ["*"] * 3 + [None] * 2
+        assert [field["Cross-Origin-Resource-Policy"] for field in fields] == ["cross-origin"] * 3 + ["same-origin"] * 2
 
 
 def test_the_calendar_is_asked_for_again_each_time_and_not_there_until_it_is_written(stage: Stage) -> None:
@@ -449,13 +449,13 @@ def test_peers_that_are_gone_shake_nothing(stage: Stage) -> None:
 def test_one_address_takes_no_more_than_its_share(stage: Stage) -> None:
     """Of 72 connections of one address 64 may wait for their bodies; another address is served meanwhile."""
     with contextlib.ExitStack() as peers:
-        found = [peers.enter_context(Peer(stage, 7)) for _ in range(72)]
-        for peer in found:
+        contexts = [peers.enter_context(Peer(stage, 7)) for _ in range(72)]
+        for peer in contexts:
             peer.send(Peer.put(drawn_key(), 9))
-        told = [""] * len(found)
+        told = [""] * len(contexts)
 
         def refused() -> int:
-            told[:] = [before + peer.head() for before, peer in zip(told, found)]
+            told[:] = [before + peer.head() for before, peer in zip(told, contexts)]
             return sum(text.startswith("HTTP/1.1 429 ") for text in told)
 
         assert once(lambda: refused() >= 8)

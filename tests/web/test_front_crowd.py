@@ -31,7 +31,7 @@ BUSY = (8.0, 6.0)
 """Seconds after which the office stands still, and for how many: more than `EVERY`, so all collectors wait at once."""
 
 FOLDERS = ("collect", "shared")
-FILES = [f"/{folder}/{it.name}" for folder in FOLDERS for it in (ROOT / "web" / folder).iterdir() if it.is_file()]
+FILES = [f"/{folder}/{path.name}" for folder in FOLDERS for path in (ROOT / "web" / folder).iterdir() if path.is_file()]
 LISTS = (f"/work/{NOW}", "/items", f"/work/{NOW}", f"/quotes/{NOW}/{NOW}")
 """What a page of the collectors asks the office for while its user signs in."""
 
@@ -63,8 +63,8 @@ class Collector:
     def files(self) -> list[Told]:
         """Asks for what the page is made of. (An office may have no calendar for its pages.)"""
         calendar = self.asks("/calendar.json", is_public=True)
-        found = [self.asks(path, is_public=True) for path in FILES]
-        return found if calendar.status == 404 else [*found, calendar]
+        files = [self.asks(path, is_public=True) for path in FILES]
+        return files if calendar.status == 404 else [*files, calendar]
 
     def lists(self) -> list[Told]:
         """Asks for all lists, one after another."""

@@ -24,8 +24,8 @@ FORM = {"Content_Type": "application/x-www-form-urlencoded"}
 @pytest.fixture
 def fronted(stage: Stage, tmp_path: Path) -> Iterator[DeskPages]:
     """The application behind the front, as CPI_DESK_FRONT sets it."""
-    with desk_pages(stage, tmp_path, f"{stage.url}{PREFIX}/") as it:
-        yield it
+    with desk_pages(stage, tmp_path, f"{stage.url}{PREFIX}/") as pages:
+        yield pages
 
 
 def test_nobody_past_the_front_reaches_it(fronted: DeskPages, stage: Stage) -> None:
@@ -38,8 +38,8 @@ def listening_ports(process: int) -> list[str]:
     """The ports of TCP at which a process listens."""
     table = "".join(Path(f"/proc/net/{name}").read_text(encoding="ascii") for name in ("tcp", "tcp6"))
     at = {cells[9]: cells[1] for cells in map(str.split, table.splitlines()) if cells[3] == "0A"}
-    links = (os.readlink(it) for it in Path(f"/proc/{process}/fd").iterdir() if it.is_symlink())
-    return [at[it[8:-1]] for it in links if it.startswith("socket:[") and it[8:-1] in at]
+    links = (os.readlink(path) for path in Path(f"/proc/{process}/fd").iterdir() if path.is_symlink())
+    return [at[link[8:-1]] for link in links if link.startswith("socket:[") and link[8:-1] in at]
 
 
 def signed_in(stage: Stage, key: str, **fields: str) -> Answer:
@@ -117,9 +117,9 @@ def limited(network: str) -> Callable[[str], str]:
     """Takes the signs away from the two lines of the front, and names a network there."""
 
     def change(text: str) -> str:
-        found, count = re.subn(r"# (allow 192\.0\.2\.0/24;|deny  all;)", r"\1", text)
+        change, count = re.subn(r"# (allow 192\.0\.2\.0/24;|deny  all;)", r"\1", text)
         assert count == 2
-        return found.replace("192.0.2.0/24", network)
+        return change.replace("192.0.2.0/24", network)
 
     return change
 
@@ -135,7 +135,9 @@ def test_while_it_is_away_one_sentence_says_so_and_all_else_works(
     assert stage.ask("POST", f"{PREFIX}/records/judge", body="text=x", **FORM).status == 503
     assert stage.ask("GET", "/away.html").status == 404
     person.open("/records")
-    assert browser.text("main p").startswith("The desk\u2019s pages can\u2019t be reached at the moment. Try again in a minute")
+    assert browser.text("main p").startswith(
+        "The desk\u2019s pages can\u2019t be reached at the moment. Try again in a minute"
+    )
     languages = browser.run("return [...document.querySelectorAll('main p')].map((it) => it.lang || 'en')")
     assert languages == ["en", "ar", "es", "fr"]
     for width in (360, 1280):

@@ -35,8 +35,8 @@ PROCESSOR_SECONDS = 20.0
 @pytest.fixture
 def fronted(stage: Stage, tmp_path: Path) -> Iterator[DeskPages]:
     """The application behind the front."""
-    with desk_pages(stage, tmp_path, f"{stage.url}{PREFIX}/") as it:
-        yield it
+    with desk_pages(stage, tmp_path, f"{stage.url}{PREFIX}/") as pages:
+        yield pages
 
 
 def head_of(host: str, path: str, length: int) -> bytes:
@@ -68,10 +68,10 @@ def sent_past_the_front(pages: DeskPages) -> bytes:
         line.settimeout(120)
         line.connect(str(pages.socket))
         line.sendall(head_of(f"localhost:{pages.stage.port}", f"{PREFIX}/sign-in", len(FIELDS)) + FIELDS)
-        found = b""
+        front = b""
         while piece := line.recv(65536):
-            found += piece
-    return found
+            front += piece
+    return front
 
 
 def used(pages: DeskPages) -> float:

@@ -108,9 +108,9 @@ IN_A_HEAD = re.compile(
 def test_no_field_and_no_address_is_of_a_decoded_path() -> None:
     """In a field, or in the address to which a reply leads, nginx would write out what a path has in its code."""
     text = (ROOT / "ops/nginx.conf").read_text(encoding="utf-8")
-    found = [(word, rest) for word, rest in IN_A_HEAD.findall(text)]
-    assert len(found) > 20
-    assert [it for it in found if re.search(r"\$(document_)?uri\b", it[1])] == []
+    elements = [(word, rest) for word, rest in IN_A_HEAD.findall(text)]
+    assert len(elements) > 20
+    assert [element for element in elements if re.search(r"\$(document_)?uri\b", element[1])] == []
     # what a map makes of a path is a text of its own: none hands a part of the path on
     of_paths = re.findall(r"^map [^{]*\$uri\b[^{]*\$(\w+) \{(.*?)^\}", text, re.M | re.S)
     named = {name for name, _ in of_paths}
@@ -127,6 +127,6 @@ def test_no_field_and_no_address_is_of_a_decoded_path() -> None:
 def test_caddy_leads_to_fixed_addresses_only() -> None:
     """It encodes what stands in a field; yet no field and no address has a part of the path."""
     text = (ROOT / "ops/Caddyfile").read_text(encoding="utf-8")
-    found = re.findall(r"^\s*(redir|header|header_down)\b(.*)$", text, re.M)
-    assert len(found) > 10
-    assert [it for it in found if re.search(r"\{(uri|path|re\.|http\.request\.(orig_)?uri)", it[1])] == []
+    matches = re.findall(r"^\s*(redir|header|header_down)\b(.*)$", text, re.M)
+    assert len(matches) > 10
+    assert [match for match in matches if re.search(r"\{(uri|path|re\.|http\.request\.(orig_)?uri)", match[1])] == []

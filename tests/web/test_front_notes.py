@@ -37,8 +37,8 @@ BOUNDARY = "a-boundary-of-parts"
 @pytest.fixture
 def fronted(stage: Stage, tmp_path: Path) -> Iterator[DeskPages]:
     """The application behind the front, which takes notes."""
-    with desk_pages(stage, tmp_path, f"{stage.url}{PREFIX}/", "--field-notes", AGES) as it:
-        yield it
+    with desk_pages(stage, tmp_path, f"{stage.url}{PREFIX}/", "--field-notes", AGES) as pages:
+        yield pages
 
 
 class Told(NamedTuple):
@@ -92,9 +92,9 @@ def page_of_a_person(stage: Stage) -> dict[str, str]:
     """The fields with which a person who is signed in at the desk asks for a page."""
     fields = {"Content_Type": "application/x-www-form-urlencoded", "Origin": stage.url}
     answer = stage.ask("POST", f"{PREFIX}/sign-in", body=f"name=Ada&key={DESK}&to=/", **fields)
-    found = re.match("[^;]+", answer.fields["Set-Cookie"])
-    assert answer.status == 303 and found
-    return {"Cookie": found[0]}
+    match = re.match("[^;]+", answer.fields["Set-Cookie"])
+    assert answer.status == 303 and match
+    return {"Cookie": match[0]}
 
 
 def test_a_page_of_the_desk_is_there_within_a_second_beside_a_flood_of_pictures(
@@ -105,26 +105,26 @@ def test_a_page_of_the_desk_is_there_within_a_second_beside_a_flood_of_pictures(
 
     def flood(number: int) -> list[Told]:
         """Sends one note after another, each another one."""
-        found, until = list[Told](), time.monotonic() + FLOOD_SECONDS
+        floods, until = list[Told](), time.monotonic() + FLOOD_SECONDS
         while time.monotonic() < until:
-            form = form_of(receipt, f"{number} {len(found)}", picture)
-            found.append(sent(stage, ANNA, 3, form, number % ADDRESSES))
+            form = form_of(receipt, f"{number} {len(floods)}", picture)
+            floods.append(sent(stage, ANNA, 3, form, number % ADDRESSES))
             time.sleep(0.05)
-        return found
+        return floods
 
     def pages() -> list[tuple[float, int]]:
         """The page of the month while the flood goes on: how long each took, and its status."""
         with ThreadPoolExecutor(CONNECTIONS) as pool:
             floods = [pool.submit(flood, number) for number in range(CONNECTIONS)]
             time.sleep(1)
-            found = list[tuple[float, int]]()
-            while not all(it.done() for it in floods):
-                found.append(timed(lambda: stage.ask("GET", f"{PREFIX}/month/{NOW}/", **person).status))
+            pages = list[tuple[float, int]]()
+            while not all(submit.done() for submit in floods):
+                pages.append(timed(lambda: stage.ask("GET", f"{PREFIX}/month/{NOW}/", **person).status))
                 time.sleep(0.3)
-            told.extend(answer for it in floods for answer in it.result())
-        seconds = [it for it, _ in found]
+            told.extend(answer for submit in floods for answer in submit.result())
+        seconds = [page for page, _ in pages]
         print(f"pages: {len(seconds)}, median {statistics.median(seconds):.2f} s, most {max(seconds):.2f} s")
-        return found
+        return pages
 
     assert set(answered_within(PAGE_SECONDS, pages)) == {200}
     words = {answer.status: {it.word for it in told if it.status == answer.status} for answer in told}

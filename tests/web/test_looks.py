@@ -31,9 +31,9 @@ def rows(stage: Stage, ada: Person, browser: Browser) -> list[str]:
     ada.open(LOOKS)
     ada.tried(MONTH)
     browser.run("globalThis.stays = 'yes'")
-    found: list[str] = browser.run("return [...document.querySelectorAll('tr.look')].map((it) => it.id)")
-    assert len(found) == 3
-    return found
+    rows: list[str] = browser.run("return [...document.querySelectorAll('tr.look')].map((it) => it.id)")
+    assert len(rows) == 3
+    return rows
 
 
 def focus(browser: Browser) -> str:

@@ -36,11 +36,11 @@ PAGES = (
 @pytest.fixture(scope="module")
 def folder(cpi: Cpi, tmp_path_factory: pytest.TempPathFactory) -> Path:
     """A page of each kind."""
-    found = tmp_path_factory.mktemp("others")
+    folder = tmp_path_factory.mktemp("others")
     records = "\n".join(lived())
     for text, other in TURNED.items():
         records = records.replace(text, other)
-    office, config, sheets = found / "office.db", found / "office.ini", found / "1 l\u202e 2.06"
+    office, config, sheets = folder / "office.db", folder / "office.ini", folder / "1 l\u202e 2.06"
     assert [reply for reply in cpi.replay(records.split("\n"), db=office) if "refused" in reply] == []
     config.write_text(CONFIG, encoding="utf-8")
     sheets.mkdir()
@@ -48,14 +48,14 @@ def folder(cpi: Cpi, tmp_path_factory: pytest.TempPathFactory) -> Path:
     (sheets / "items.csv").write_text(items, encoding="utf-8")
     program = ("--program", str(cpi.path))
     for status, *words in (
-        (0, "publish", "--db", office, "--at", 1_000_000, "--config", config, "--out", found / "public", *program),
-        (0, "desk", "month", office, "2011-02", "--out", found / "desk", *program),
-        (0, "explain", office, "2011-02", "all", "--html", found / "explained"),
-        (0, "explain", office, "2011-02", "--series", "7/1", "--html", found / "life.html"),
-        (1, "take-in", sheets, "--check", "--out", found / "check", *program),
+        (0, "publish", "--db", office, "--at", 1_000_000, "--config", config, "--out", folder / "public", *program),
+        (0, "desk", "month", office, "2011-02", "--out", folder / "desk", *program),
+        (0, "explain", office, "2011-02", "all", "--html", folder / "explained"),
+        (0, "explain", office, "2011-02", "--series", "7/1", "--html", folder / "life.html"),
+        (1, "take-in", sheets, "--check", "--out", folder / "check", *program),
     ):
         assert main([*map(str, words)]) == status, words
-    return found
+    return folder
 
 
 def opened(browser: Browser, page: Path, width: int) -> None:

@@ -72,12 +72,12 @@ STYLES = (
 
 def shelves() -> list[tuple[Shelf, int, int, Found]]:
     """Each shelf with its slot, last month's price, and what is found on it."""
-    draw, found = random.Random(20261127), []
+    draw, shelves = random.Random(20261127), []
     for number in range(350):
         shelf = (SHOPS[number // 25], f"{ITEMS[number % 25]}, {UNITS[number % 4]}")
         last = draw.randrange(80, 1500) if number % 25 != 20 else draw.randrange(120_000, 180_000)
-        found.append((shelf, number + 1, last, on_shelf(draw, last)))
-    return found
+        shelves.append((shelf, number + 1, last, on_shelf(draw, last)))
+    return shelves
 
 
 def on_shelf(draw: random.Random, last: int) -> Found:
@@ -189,8 +189,8 @@ class Hand:
             self.browser.cdp("Input.insertText", text=each)
 
     def form(self) -> Optional[list[str]]:
-        found: Optional[list[str]] = self.browser.run(FORM)
-        return found
+        form: Optional[list[str]] = self.browser.run(FORM)
+        return form
 
     def open_next(self) -> None:
         """Goes to the next row that is to do, and opens it."""
@@ -292,7 +292,7 @@ def test_a_day_of_350_prices(hand: Hand, wire: Wire, stage: Stage) -> None:
     browser.wait_text("#line", words.said("All sent"))
     browser.wait_text("#progress", progress(words, 350))
     assert not browser.find("#alarm").is_displayed()
-    wanted = [[slot, NOW, found.mark, found.value] for _, slot, _, found in DAY]
+    wanted = [[slot, NOW, shelf.mark, shelf.value] for _, slot, _, shelf in DAY]
     stored = stage.quotes(NOBODY)
     assert [row[:4] for row in stored] == wanted
     # (350 of last month, and one for each of these; none was given for a price that was stored twice)

@@ -211,7 +211,7 @@ def test_a_window_that_the_desk_moves_is_on_the_phone_after_an_update(
         driver.switch_to.window(own)
         phone.send()
         phone.browser.wait_text("#deadline", f"The window closes on {told(stage)}, in 5 days.")
-    (row,) = [it for it in json.loads(stage.calendar.read_text())["months"] if it["month"] == NOW]
+    (row,) = [month for month in json.loads(stage.calendar.read_text())["months"] if month["month"] == NOW]
     assert row["closes"] == closes
 
 

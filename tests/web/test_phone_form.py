@@ -284,8 +284,8 @@ def test_a_stored_price_is_withdrawn_by_no_price_and_its_reason(phone: Phone, st
 @pytest.mark.parametrize("width, scheme", [(360, "dark"), (1280, "light")])
 def test_the_form_can_be_read_touched_and_enlarged(phone: Phone, stage: Stage, width: int, scheme: str) -> None:
     def looked_at(browser: Browser) -> list[str]:
-        found = faults_of_page(browser)
-        return found if width > 600 else [*found, *faults_for_keys(browser), *faults_enlarged(browser)]
+        faults = faults_of_page(browser)
+        return faults if width > 600 else [*faults, *faults_for_keys(browser), *faults_enlarged(browser)]
 
     browser, found = phone.browser, dict[str, Any]()
     browser.size(width, 740)

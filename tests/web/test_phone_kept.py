@@ -299,10 +299,10 @@ def test_by_keyboard_alone(phone: Phone, stage: Stage) -> None:
 
 def looked_at(browser: Browser) -> list[str]:
     """What is wrong with what is seen now: for eyes and fingers, and on a phone for keys and at twice the size too."""
-    found = faults_of_page(browser)
+    faults = faults_of_page(browser)
     if browser.run("return innerWidth") < 600:
-        found += [*faults_for_keys(browser), *faults_enlarged(browser)]
-    return found
+        faults += [*faults_for_keys(browser), *faults_enlarged(browser)]
+    return faults
 
 
 @pytest.mark.sampled(1)

@@ -113,10 +113,10 @@ def test_a_day_whose_line_breaks_within_an_import(phone: Phone, stage: Stage) ->
     phone.send()
     phone.browser.wait_text("#line", "All sent")
     wanted = [["price", 321], ["missing", "stock"], *(["price", 100 * slot + 50] for slot in slots[2:])]
-    found = stage.quotes(NOBODY)
-    assert [row[2:4] for row in found] == wanted
-    assert sorted(row[4] for row in found) == [*slots]
-    for slot, _, _, _, receipt in found:
+    quotes = stage.quotes(NOBODY)
+    assert [row[2:4] for row in quotes] == wanted
+    assert sorted(row[4] for row in quotes) == [*slots]
+    for slot, _, _, _, receipt in quotes:
         assert phone.receipt(slot) == receipt
     assert (stage.relay.rows("quote,1,"), stage.relay.rows("quote,2,")) == (2, 1)
     assert stage.ask("PUT", f"/api/quote/1/{NOW}", NOBODY, "price,322").reply == {"receipt": len(slots) + 1}
@@ -186,8 +186,8 @@ def test_what_finds_no_room_at_the_office_waits_and_the_rest_is_settled(phone: P
     phone.open()  # (the office has room again)
     phone.browser.wait_text("#line", "All sent")
     phone.browser.wait(lambda: phone.browser.text("#notice") == "", "the notice is gone")
-    found = [row[:1] + row[3:] for row in stage.quotes(ANNA)]
-    assert found == [[1, 310, NEXT], [2, 490, NEXT + 1], [4, 110, NEXT + 2]]
+    rows = [row[:1] + row[3:] for row in stage.quotes(ANNA)]
+    assert rows == [[1, 310, NEXT], [2, 490, NEXT + 1], [4, 110, NEXT + 2]]
 
 
 def test_the_office_dies_and_comes_back(phone: Phone, stage: Stage) -> None:

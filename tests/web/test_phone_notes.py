@@ -32,8 +32,8 @@ return found.length;
 @pytest.fixture
 def pages(stage: Stage, tmp_path: Path) -> Iterator[DeskPages]:
     """The application of the desk, which takes notes, and a front that hands them to it."""
-    with desk_pages(stage, tmp_path, "", "--field-notes", AGES) as it, takes_notes(stage, it):
-        yield it
+    with desk_pages(stage, tmp_path, "", "--field-notes", AGES) as pages, takes_notes(stage, pages):
+        yield pages
 
 
 @pytest.fixture
@@ -110,8 +110,8 @@ def test_others_are_handed_nothing_of_it_through_the_front(noting: Phone, stage:
     wait_sent(noting, stage, "Behind the till")
     for path in (f"/notes/{NOW}", f"/notes/{NOW}/photo/1"):
         answers = [stage.ask("GET", path, key) for key in (BENO, NOBODY, DESK, None)]
-        assert b"till" not in b"".join(it.body for it in answers)
-        assert [it.status for it in answers[1:]] == [401, 403, 401]
+        assert b"till" not in b"".join(answer.body for answer in answers)
+        assert [answer.status for answer in answers[1:]] == [401, 403, 401]
     assert at_the_desk(stage, BENO) == [] and ANNA not in stage.logs()
     assert stage.ask("GET", f"/notes/{NOW}?a", ANNA).status == 404
     assert stage.ask("GET", "/notes/month/2026-01/field-notes", ANNA).status == 404
@@ -396,7 +396,7 @@ def test_it_can_be_read_and_reached_by_keys(noting: Phone, pages: DeskPages, tmp
         browser.size(width, 740)
         for scheme in ("light", "dark"):
             browser.shown_as(scheme)
-            found += [f"list at {width}, {scheme}: {it}" for it in faults_of_page(browser)]
+            found += [f"list at {width}, {scheme}: {fault}" for fault in faults_of_page(browser)]
     browser.size(360, 740)
     found += faults_for_keys(browser)
     noting.edit(2)
@@ -404,7 +404,7 @@ def test_it_can_be_read_and_reached_by_keys(noting: Phone, pages: DeskPages, tmp
     browser.click('#entry input[value="other"][name="mark"]')
     for scheme in ("light", "dark"):
         browser.shown_as(scheme)
-        found += [f"form, {scheme}: {it}" for it in faults_of_page(browser)]
+        found += [f"form, {scheme}: {fault}" for fault in faults_of_page(browser)]
     found += faults_for_keys(browser)
     choose(noting, camera_file(tmp_path))
     found += [*faults_of_page(browser), *faults_for_keys(browser)]

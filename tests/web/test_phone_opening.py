@@ -42,8 +42,8 @@ def announce(file: Path, until: float) -> None:
 
 def clock(phone: Phone, at: float) -> str:
     """A moment by the clock of the phone."""
-    found: str = phone.browser.run(CLOCK, int(at))
-    return found
+    clock: str = phone.browser.run(CLOCK, int(at))
+    return clock
 
 
 def test_the_phone_says_when_the_office_will_answer_and_sends_then(phone: Phone, stage: Stage, opening: Path) -> None:

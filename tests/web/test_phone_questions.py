@@ -37,8 +37,8 @@ return found.length;
 @pytest.fixture
 def pages(stage: Stage, tmp_path: Path) -> Iterator[DeskPages]:
     """The application of the desk, which takes notes, and a front that hands them to it."""
-    with desk_pages(stage, tmp_path, "", "--field-notes", AGES) as it, takes_notes(stage, it):
-        yield it
+    with desk_pages(stage, tmp_path, "", "--field-notes", AGES) as pages, takes_notes(stage, pages):
+        yield pages
 
 
 def window(stage: Stage, closes: int) -> None:
@@ -100,14 +100,14 @@ def test_a_question_is_answered_without_a_line_and_comes_back_to_the_price(
     browser.wait_text("#alarm", "1 question")
     browser.wait_text("#questions", STILL)
     picture(phone, "list")
-    found = [*faults_of_page(browser), *faults_for_keys(browser)]
+    faults = [*faults_of_page(browser), *faults_for_keys(browser)]
     open_question(phone)
     browser.wait_text("#question", f"The desk asks: {STILL}")
     assert browser.text("#answer-right") == "4.16 is right" and "type the right one above" in browser.text(
         "#answer-about"
     )
     picture(phone, "form")
-    found += [*faults_of_page(browser), *faults_for_keys(browser)]
+    faults += [*faults_of_page(browser), *faults_for_keys(browser)]
     # (what was typed and not sent is there again, and its row says so)
     browser.type("#answer-text", "Weighed it")
     phone.close()
@@ -126,7 +126,7 @@ def test_a_question_is_answered_without_a_line_and_comes_back_to_the_price(
     browser.wait_text("#questions", "4.16 is right · Weighed it: 1 kg")
     assert "All sent" not in browser.text("#line") and len(kept(stage)) == 1
     picture(phone, "waiting")
-    found += faults_of_page(browser)
+    faults += faults_of_page(browser)
     browser.offline(False)
     browser.wait_text("#line", "All sent")
     assert kept(stage) == [] and not browser.find("#questions").is_displayed()
@@ -135,10 +135,10 @@ def test_a_question_is_answered_without_a_line_and_comes_back_to_the_price(
     browser.wait_text("#look-7-1 .notes", "price 416 is right")
     browser.wait_text("#look-7-1 .notes", "Weighed it: 1 kg")
     picture(phone, "desk-360")
-    found += [*faults_of_page(browser), *faults_for_keys(browser)]
+    faults += [*faults_of_page(browser), *faults_for_keys(browser)]
     browser.size(1280, 900)
     picture(phone, "desk-1280")
-    assert found + faults_of_page(browser) == []
+    assert faults + faults_of_page(browser) == []
 
 
 def test_a_corrected_price_is_stored_first_and_others_read_nothing(
@@ -162,7 +162,7 @@ def test_a_corrected_price_is_stored_first_and_others_read_nothing(
     browser.wait(lambda: phone.edited() is None, "the form is closed")
     browser.wait_text("#questions", "Corrected to 2.16 · A slip")
     browser.wait_text("#questions", "The desk’s machine is busy. The answer will be sent automatically.")
-    assert [it[3] for it in stage.quotes(ANNA, MONTH) if it[0] == 1] == [216]
+    assert [quote[3] for quote in stage.quotes(ANNA, MONTH) if quote[0] == 1] == [216]
     pages.start()
     phone.send()
     browser.wait_text("#line", "All sent")
@@ -272,7 +272,7 @@ def test_once_the_window_has_closed_the_form_says_what_to_write(
     window(stage, FAR)
     phone.send()
     browser.wait_text("#line", "All sent")
-    assert kept(stage) == [] and [it[3] for it in stage.quotes(ANNA, MONTH) if it[0] == 1] == [216]
+    assert kept(stage) == [] and [quote[3] for quote in stage.quotes(ANNA, MONTH) if quote[0] == 1] == [216]
 
 
 def test_signing_out_asks_and_leaves_nothing_to_the_next_collector(

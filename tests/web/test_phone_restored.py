@@ -352,8 +352,8 @@ quote in its place if the phone had known it: the former one of slot 2 was 4.80,
 def test_what_the_office_lacks_is_told_from_what_another_device_has_stored(phone: Phone) -> None:
     phone.open()
 
-    def rows(found: Rows) -> list[list[Any]]:
-        return [[slot, NOW, "price", price, receipt] for slot, price, receipt in found]
+    def rows(rows: Rows) -> list[list[Any]]:
+        return [[slot, NOW, "price", price, receipt] for slot, price, receipt in rows]
 
     for name, known, quotes, lacks in CASES:
         found = phone.browser.run_until(COMPARED, {"quotes": rows(known), "former": rows([(2, 480, 3)])}, rows(quotes))

@@ -183,11 +183,11 @@ def test_texts_of_others_turn_nothing_beside_them(phone: Phone, stage: Stage) ->
 
 def looked_at(browser: Browser) -> list[str]:
     """What is wrong with what is seen now."""
-    found = faults_of_page(browser)
+    faults = faults_of_page(browser)
     return (
-        found
+        faults
         if browser.run("return innerWidth") > 600
-        else [*found, *faults_for_keys(browser), *faults_enlarged(browser)]
+        else [*faults, *faults_for_keys(browser), *faults_enlarged(browser)]
     )
 
 

@@ -70,8 +70,8 @@ def test_a_name_is_shown_as_a_text(phone: Phone) -> None:
     for name, kept in NAMES.items():
         follow(phone, ANNA, name)
         phone.browser.wait(lambda: phone.browser.run(name_shown) == kept, name)
-        found = faults_of_texts(phone.browser, [kept] if len(kept) > 4 else [])
-        assert [*found, *faults_of_page(phone.browser), *faults_enlarged(phone.browser)] == [], name
+        faults = faults_of_texts(phone.browser, [kept] if len(kept) > 4 else [])
+        assert [*faults, *faults_of_page(phone.browser), *faults_enlarged(phone.browser)] == [], name
         assert phone.browser.run("return document.title") == "Price collection"
     phone.open()
     phone.browser.wait(lambda: phone.browser.run(name_shown) == "A&B=C+D%", "the name, on a page that is opened anew")

@@ -53,10 +53,10 @@ def test_the_head_counts_what_isnt_stored_of_all_months_and_leads_to_it(phone: P
     assert phone.browser.text("#line") == ""
     phone.send()
     phone.browser.wait(lambda: not phone.browser.all('[data-slot="1"]'), "the slot has left the list")
-    found = press_alarm(phone)
+    alarm = press_alarm(phone)
     assert phone.browser.run("return document.activeElement.id") == "unsent-title"
-    assert list(found) == [f"{BEFORE}/4", f"{NOW}/1", f"{NOW}/2"]
-    october, handed_over, moved = found.values()
+    assert list(alarm) == [f"{BEFORE}/4", f"{NOW}/1", f"{NOW}/2"]
+    october, handed_over, moved = alarm.values()
     assert october[0].endswith(" · <img src=x onerror=\"document.title='owned'\">")
     assert october[1:3] == ["Milk, whole, 1 l: 1.10", CLOSED_TEXT]
     assert handed_over[0].endswith(" · Corner shop")
@@ -170,9 +170,9 @@ def test_what_was_refused_for_a_while_is_stored_by_itself_once_its_window_opens(
         wait_alarm(phone, "2 refused")
         desk(stage, OPEN, f"calendar,{after},5000,9999999998,9999999999")
         phone.browser.wait_text("#line", "All sent")  # (nobody touches the page)
-    found = stage.quotes(ANNA) + stage.quotes(ANNA, after)
-    assert [row[:4] for row in found] == [[1, NOW, "price", 310], [2, after, "price", 490]]
-    assert sorted(row[4] for row in found) == [NEXT, NEXT + 1]
+    quotes = stage.quotes(ANNA) + stage.quotes(ANNA, after)
+    assert [row[:4] for row in quotes] == [[1, NOW, "price", 310], [2, after, "price", 490]]
+    assert sorted(row[4] for row in quotes) == [NEXT, NEXT + 1]
 
 
 def test_what_was_refused_for_a_while_is_tried_after_one_two_and_four_minutes(phone: Phone, stage: Stage) -> None:
@@ -226,10 +226,10 @@ def test_a_price_that_the_office_alone_finds_far_isnt_tried_again(phone: Phone, 
 
 def slots(phone: Phone) -> list[str]:
     """The slots of the rows that are shown."""
-    found: list[str] = phone.browser.run(
+    slots: list[str] = phone.browser.run(
         "return [...document.querySelectorAll('[data-slot]')].map((it) => it.dataset.slot)"
     )
-    return found
+    return slots
 
 
 def test_nothing_moves_when_what_is_listed_gets_stored(phone: Phone, stage: Stage) -> None:

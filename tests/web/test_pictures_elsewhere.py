@@ -54,8 +54,8 @@ def test_pages_to_embed_can_be_framed_and_no_other(front: Stage) -> None:
 
 def ancestors_of(front: Stage, path: str) -> str:
     """Who may frame a page, by its policy."""
-    (found,) = re.findall(r"frame-ancestors ([^;]*)", front.ask("GET", path).fields["Content-Security-Policy"])
-    return str(found)
+    (ancestors,) = re.findall(r"frame-ancestors ([^;]*)", front.ask("GET", path).fields["Content-Security-Policy"])
+    return str(ancestors)
 
 
 def test_pages_in_another_language_are_no_others(stage: Stage, tmp_path: Path) -> None:
@@ -67,10 +67,10 @@ def test_pages_in_another_language_are_no_others(stage: Stage, tmp_path: Path) -
         (tmp_path / "site/pt-BR" / name).write_text("x")
     stage.published.symlink_to(tmp_path / "site")
     fields = {name: stage.ask("GET", f"{PLACE}/pt-BR/{name}").fields for name in (*public, *own)}
-    assert {name for name, found in fields.items() if found.get("Access-Control-Allow-Origin") == "*"} == {*public}
+    assert {name for name, field in fields.items() if field.get("Access-Control-Allow-Origin") == "*"} == {*public}
     framed_by = {name: ancestors_of(stage, f"{PLACE}/pt-BR/{name}") for name in (*public, *own)}
     assert {name for name, them in framed_by.items() if them == "*"} == {"embed/00.html"}
-    resource = {name for name, found in fields.items() if found["Cross-Origin-Resource-Policy"] == "cross-origin"}
+    resource = {name for name, field in fields.items() if field["Cross-Origin-Resource-Policy"] == "cross-origin"}
     assert resource == {*public, "embed/00.html"}
 
 

@@ -112,15 +112,15 @@ def faults_of(browser: Browser, tag: str, name: str) -> list[str]:
         browser.picture(Path(PICTURES) / f"{tag}-{name.replace('/', '-')}.png")
     assert browser.run("return document.documentElement.lang") == tag
     assert browser.run("return getComputedStyle(document.body).direction") == ("rtl" if tag == "he" else "ltr")
-    found = [*browser.run(CUT), *browser.run(LEFT), *browser.run(COVERED), *browser.run(WIDE)]
-    found += [*browser.run(NAMELESS), *browser.faults()]
-    return [f"{tag} {name}: {fault}" for fault in found]
+    faults = [*browser.run(CUT), *browser.run(LEFT), *browser.run(COVERED), *browser.run(WIDE)]
+    faults += [*browser.run(NAMELESS), *browser.faults()]
+    return [f"{tag} {name}: {fault}" for fault in faults]
 
 
 def look(browser: Browser, tag: str, name: str) -> None:
     """Nothing is wrong with what is seen now."""
-    found = faults_of(browser, tag, name)
-    assert not found, "\n".join(found)
+    faults = faults_of(browser, tag, name)
+    assert not faults, "\n".join(faults)
 
 
 @pytest.mark.sampled(1)
@@ -186,7 +186,7 @@ def test_the_scripts_of_the_site_speak_its_language(shown: Browser, tag: str) ->
     shown.wait(lambda: shown.all("#parts tbody tr"), "figures")
     look(shown, tag, "choose.html")
     texts, is_over = shown.run(AXIS)
-    assert len(texts) > 4 and not is_over and not [it for it in texts if re.search("[A-Za-z-]", it)], texts
+    assert len(texts) > 4 and not is_over and not [text for text in texts if re.search("[A-Za-z-]", text)], texts
     shown.open(f"/published/{folder}nodes.html#seek=999999")
     shown.wait(lambda: shown.text("#found"), "what is found")
     look(shown, tag, "nodes.html")

@@ -95,9 +95,9 @@ class Trial:
     def left(self) -> list[int]:
         """Which of its children still run, after a moment at most."""
         begun = time.monotonic()
-        while (found := [it for it in self.children if is_running(it)]) and time.monotonic() - begun < 20:
+        while (children := [child for child in self.children if is_running(child)]) and time.monotonic() - begun < 20:
             time.sleep(0.05)
-        return found
+        return children
 
 
 def is_running(process: int) -> bool:
@@ -110,10 +110,10 @@ def is_running(process: int) -> bool:
 def trial(cpi: Cpi, made: Path, tmp_path: Path) -> Iterator[Trial]:
     """A trial of the made-up country; a small office stands in its place, as if it had been made this month."""
     shutil.copy(made, tmp_path / f"{datetime.date.today():%Y-%m}.db")
-    found = Trial(cpi, tmp_path)
-    yield found
-    if found.process.poll() is None:
-        found.stop(signal.SIGTERM)
+    trial = Trial(cpi, tmp_path)
+    yield trial
+    if trial.process.poll() is None:
+        trial.stop(signal.SIGTERM)
 
 
 def test_it_tells_where_to_point_a_phone_and_stops_at_ctrl_c(trial: Trial) -> None:
@@ -154,13 +154,13 @@ def test_it_goes_on_where_it_was_stopped(trial: Trial, cpi: Cpi) -> None:
     assert trial.put(f"/api/quote/1/{NOW}", ANNA, "price,219,confirm") == 200
     first = json.loads(trial.get("/published/manifest.json")[1])
     announced = (trial.folder / "announced.csv").read_text().splitlines()
-    (window,) = [it for it in json.loads(trial.get("/calendar.json")[1])["months"] if it["month"] == NOW]
+    (window,) = [month for month in json.loads(trial.get("/calendar.json")[1])["months"] if month["month"] == NOW]
     assert f"{NOW},{window['closes']}" in announced  # (the window of this office closes as its table comes out)
     assert trial.stop(signal.SIGINT) == 0
     other = Trial(cpi, trial.folder)
     try:
         ports = (str(trial.port), str(other.port))
-        assert again.findall(other.told) == [it.replace(*ports) for it in again.findall(trial.told)]
+        assert again.findall(other.told) == [element.replace(*ports) for element in again.findall(trial.told)]
         quotes = json.loads(other.get(f"/api/quotes/{NOW}/{NOW}", ANNA)[1])["quotes"]
         assert [row[3] for row in quotes if row[0] == 1] == [219]
         then = json.loads(other.get("/published/manifest.json")[1])

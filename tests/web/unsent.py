@@ -77,8 +77,8 @@ def refused(phone: Phone, stage: Stage, *prices: tuple[int, str]) -> None:
 
 def put(stage: Stage, slot: int, value: str, key: str = ANNA) -> int:
     """Another device of the collector stores a mark with its value, such as `price,250`; its receipt."""
-    found: int = stage.ask("PUT", f"/api/quote/{slot}/{NOW}", key, value).reply["receipt"]
-    return found
+    receipt: int = stage.ask("PUT", f"/api/quote/{slot}/{NOW}", key, value).reply["receipt"]
+    return receipt
 
 
 def without_line(phone: Phone) -> None:
@@ -111,11 +111,11 @@ def file_of(browser: Browser, button: str, folder: Path) -> list[list[str]]:
     browser.cdp("Browser.setDownloadBehavior", behavior="allow", downloadPath=str(folder))
     browser.click(button)
     begun = time.monotonic()
-    while not (found := [file for file in folder.glob("not-stored-*.csv") if file.stat().st_size]):
+    while not (files := [file for file in folder.glob("not-stored-*.csv") if file.stat().st_size]):
         assert time.monotonic() - begun < SECONDS, "a file"
         time.sleep(0.03)
-    text = found[0].read_bytes().decode()
-    found[0].unlink()
+    text = files[0].read_bytes().decode()
+    files[0].unlink()
     return rows_of(text)
 
 

@@ -66,7 +66,7 @@ class Befalling:
     def offline(self, fault: Fault, until: int) -> None:
         """A phone has no line."""
         self.country.met(fault.kind)
-        next(it for it in self.country.collectors if it.name == fault.whom).goes_offline(until)
+        next(collector for collector in self.country.collectors if collector.name == fault.whom).goes_offline(until)
 
     def desk(self, fault: Fault, _: int) -> None:
         """The desk's programs are killed: one that gets a freeze ready, and one that has sent something."""
@@ -179,7 +179,7 @@ class Befalling:
         """A backup, while somebody sends price after price."""
         country, outside = self.country, self.country.outside
         collector = country.collectors[0]
-        month = next(it for it in country.world.months if it.opens <= country.now < it.closes)
+        month = next(month for month in country.world.months if month.opens <= country.now < month.closes)
         slots = [slot for name, slot in collector.sheet if name == month.name]
 
         def send() -> None:

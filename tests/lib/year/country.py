@@ -53,8 +53,10 @@ class Country:
         self.wire = Wire(self.machine, self.judge)
         self.keeping = Keeping(self.machine, self.judge)
         self.desk, self.closing = Desk(self), Closing(self.machine, self.met)
-        self.collectors = [Collector(it, self) for it in world.collectors if it not in world.senders]
-        self.senders = [Sender(it, self) for it in world.senders]
+        self.collectors = [
+            Collector(collector, self) for collector in world.collectors if collector not in world.senders
+        ]
+        self.senders = [Sender(sender, self) for sender in world.senders]
         self.outside = Outside(self, self.machine.site)
         self.befalling = Befalling(self)
         self.queue: list[tuple[int, int, Any]] = []
@@ -194,7 +196,7 @@ class Country:
                 return False
             listed[number] = reply["quotes"]
             self.judge.stands(number, listed[number])
-        people: dict[int, Union[Collector, Sender]] = {it.number: it for it in self.collectors}
-        people.update({it.number: it for it in self.senders})
+        people: dict[int, Union[Collector, Sender]] = {collector.number: collector for collector in self.collectors}
+        people.update({sender.number: sender for sender in self.senders})
         self.judge.is_complete(month.name, listed, lambda number, slot: people[number].holds(month.name, slot))
         return True

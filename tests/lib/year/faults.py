@@ -57,7 +57,7 @@ class Fault(NamedTuple):
 
 def drawn_faults(world: World, kinds: list[str], is_certain: bool = False) -> list[Fault]:
     """All faults of these kinds, with numbers that are the same whichever kinds are chosen."""
-    found: list[Fault] = []
+    faults: list[Fault] = []
     for month in world.months:
         drawn = world.drawn("faults", month.name)
         for kind in KINDS:
@@ -75,20 +75,20 @@ def drawn_faults(world: World, kinds: list[str], is_certain: bool = False) -> li
                     how = CERTAIN[kind][0]
                 chosen = "desk" if kind == "desk" else drawn.choice(people(world))
                 chosen = f"collector {world.seen}" if is_certain else chosen
-                found.append(Fault(len(found), kind, how, moment, whom or chosen))
-    return [fault for fault in found if fault.kind in kinds]
+                faults.append(Fault(len(faults), kind, how, moment, whom or chosen))
+    return [fault for fault in faults if fault.kind in kinds]
 
 
 def people(world: World) -> list[str]:
     """The people who ask the office."""
-    named = [f"{'sender' if it in world.senders else 'collector'} {it}" for it in world.collectors]
+    named = [f"{'sender' if collector in world.senders else 'collector'} {collector}" for collector in world.collectors]
     return [*named, "desk", "desk", "public"]
 
 
 def falls_on(kind: str, world: World, month: Month) -> list[str]:
     """The people on whom the faults of a kind fall in a month, one for each; empty if they are drawn."""
     if kind == "offline":
-        return [f"collector {it}" for it in world.collectors if it not in world.senders]
+        return [f"collector {collector}" for collector in world.collectors if collector not in world.senders]
     if kind == UPGRADED:
         return ["all"] if month.at == 1 else []
     if kind in OF_A_MACHINE:

@@ -185,7 +185,7 @@ class Judge:
             raise Broken(fault)
         if may_be_before and text == self.manifest:
             return
-        listed = {(it["month"], it["revision"]): it["sha256"] for it in manifest["tables"]}
+        listed = {(table["month"], table["revision"]): table["sha256"] for table in manifest["tables"]}
         if listed != self._published():
             apart = sorted(set(listed.items()) ^ set(self._published().items()))
             raise Broken(f"the site has other tables than are out: {apart[:4]}")

@@ -39,7 +39,7 @@ class Known:
 
     @property
     def greatest(self) -> int:
-        return max((it.receipt for it in self.quotes.values()), default=0)
+        return max((quote.receipt for quote in self.quotes.values()), default=0)
 
     def mark(self, stored: Stored) -> None:
         """Notes that the office has stored a quote."""

@@ -194,14 +194,16 @@ class Phone:
 
     def look_up(self, now: int, is_all: bool) -> bool:
         """Looks up the office's quotes for entries that weren't sent at once; False if that is refused."""
-        late = [it for it in self.entries() if it.is_due(now, is_all) and it.version not in self.fresh]
+        late = [entry for entry in self.entries() if entry.is_due(now, is_all) and entry.version not in self.fresh]
         for month in sorted({entry.month for entry in late}):
             reply = self.asked("quotes", month, month)
             if "quotes" not in reply:
                 return False
             quotes = stored_of(reply["quotes"], month)
             self.keep(month, quotes, now)
-            for entry in [it for it in self.entries() if it.month == month and it.version not in self.fresh]:
+            for entry in [
+                entry for entry in self.entries() if entry.month == month and entry.version not in self.fresh
+            ]:
                 quote = quotes.get(entry.slot)
                 if entry.is_due(now, is_all) and has_moved_on(entry, quote):
                     assert quote

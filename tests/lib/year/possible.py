@@ -139,11 +139,11 @@ def distinct(offices: list[Kept]) -> list[Kept]:
     """The different offices, the first of each."""
     if len(offices) == 1:
         return offices
-    found: dict[tuple[Any, ...], list[Kept]] = {}
+    records: dict[tuple[Any, ...], list[Kept]] = {}
     for office in offices:
-        alike = found.setdefault(outline(office), [])
+        alike = records.setdefault(outline(office), [])
         if not any(content(office) == content(other) for other in alike):
             alike.append(office)
-    each = [office for alike in found.values() for office in alike]
+    each = [office for alike in records.values() for office in alike]
     assert len(each) <= MOST, f"{len(each)} offices are possible"
     return each

@@ -73,21 +73,21 @@ class World:
     def _walk(self, collector: int, slot: int) -> list[Quote]:
         others = 0 if collector == self.seen else self.others
         drawn = self.drawn(others, collector, slot)
-        price, found = drawn.randrange(100, 9000), list[Quote]()
+        price, quotes = drawn.randrange(100, 9000), list[Quote]()
         for month in self.months:
             price = max(20, price * drawn.choice(STEPS) // 100)
             kind = drawn.random() if month.at else 1.0
             if kind < 0.07:
-                found.append(Quote("missing", drawn.choice(REASONS)))
+                quotes.append(Quote("missing", drawn.choice(REASONS)))
             elif kind < 0.1:
                 price = price * drawn.choice([60, 180]) // 100
-                found.append(Quote("other", str(price)))
+                quotes.append(Quote("other", str(price)))
             elif kind < 0.14:
-                found.append(Quote("comparable", str(price)))
+                quotes.append(Quote("comparable", str(price)))
             else:
                 price = price * 2 if kind < 0.16 else price  # (far from the last one, so that it is confirmed)
-                found.append(Quote("price", str(price)))
-        return found
+                quotes.append(Quote("price", str(price)))
+        return quotes
 
     def quote(self, collector: int, slot: int, month: Month) -> Quote:
         """The quote that a collector finds in a slot; for a series that was taken over, the quote that its former slot
