@@ -450,12 +450,12 @@ def run(chosen: argparse.Namespace) -> int:
     with Progress("cpi-tools publish") as progress:
         published = read_source(chosen, progress)
         if chosen.check:
-            found = check(published, config, chosen.check, chosen.previous, progress.now)
+            faults = check(published, config, chosen.check, chosen.previous, progress.now)
         else:
             words = chosen.out, chosen.previous, progress.now, chosen.draft, chosen.sign
             series = publish(published, config, *words, lines.append)
     if chosen.check:
-        return _check_status(chosen.check, found, PDF in config.also)
+        return _check_status(chosen.check, faults, PDF in config.also)
     of = f"{write_count(len(series.vintages), 'table')} up to {series.months[-1]}, {write_count(len(series.titles), 'item')}"
     print(f"{chosen.out}: {of}")
     for line in lines:
@@ -480,7 +480,9 @@ def _tell_unknown(config: Config, series: Series) -> None:
 def _tell_unsaid(config: Config, series: Series) -> None:
     """A line on standard error for each name in the sentences of the newest month that has no figures in it."""
     month = series.months[-1]
-    rows = {name: it.rows for name, it in series.specials.items()} | {name: it.rows for name, it in series.core.items()}
+    rows = {name: special.rows for name, special in series.specials.items()} | {
+        name: core.rows for name, core in series.core.items()
+    }
     unsaid = [name for name in config.press if month not in rows.get(name, ())]
     if unsaid and config.press_since <= month:
         print(f"cpi-tools publish: press names what has no figures in {month}: {', '.join(unsaid)}", file=sys.stderr)
@@ -496,15 +498,15 @@ def _refuse_what_is_to_come(chosen: argparse.Namespace) -> None:
         )
 
 
-def _check_status(folder: Path, found: list[str], has_pdfs: bool = False) -> int:
+def _check_status(folder: Path, faults: list[str], has_pdfs: bool = False) -> int:
     """Reports the findings of --check."""
-    for line in found[:SHOWN_DIFFERENCES]:
+    for line in faults[:SHOWN_DIFFERENCES]:
         print(f"{folder}: {line}")
     if cards_like(folder) == Cards(None, folder):
         print(f"{folder}: cards of releases weren't compared: {NOT_DRAWN}")
     if has_pdfs and not pdfs_like(folder).has_writer:
         print(f"{folder}: PDFs of releases weren't compared: {NOT_MADE}")
-    if not found:
+    if not faults:
         print(f"{folder}: every file is as it is written now")
         return 0
-    raise CannotPublish(f"{folder}: {write_count(len(found), 'file')} not as written now")
+    raise CannotPublish(f"{folder}: {write_count(len(faults), 'file')} not as written now")

@@ -148,7 +148,7 @@ def _is_row(artefact: Artefact) -> bool:
 def _read_versions(path: Path) -> list[str]:
     """The versions that a structure message shows; none if there is no such file."""
     try:
-        return [element.decode() for element in SHOWN.findall(path.read_bytes())]
+        return [version.decode() for version in SHOWN.findall(path.read_bytes())]
     except FileNotFoundError:
         return []
     except OSError as fault:

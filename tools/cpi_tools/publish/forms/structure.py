@@ -392,20 +392,22 @@ def _list_of(own: Structure, config: Config, name: str) -> Reference:
 
 def _code_list(own: Structure, config: Config, name: str) -> str:
     """The code list of a concept, which the office maintains."""
-    it = own.lists[name]
+    code_list = own.lists[name]
     body = "".join(
         _name_element(
             "str:Code",
             code.name,
             element("str:Parent", element("Ref", id=code.parent)) if code.parent else "",
             code.language,
-            it.names.get(code.id, ()),
+            code_list.names.get(code.id, ()),
             id=code.id,
         )
-        for code in it.codes
+        for code in code_list.codes
     )
     kept = _list_attributes(_list_of(own, config, name))
-    return _name_element("str:Codelist", it.title, body, others=translate_text(config, it.title), **kept, **CHANGES)
+    return _name_element(
+        "str:Codelist", code_list.title, body, others=translate_text(config, code_list.title), **kept, **CHANGES
+    )
 
 
 def _concepts(own: Structure, config: Config) -> str:

@@ -180,15 +180,15 @@ class SdmxSlices:
         if config.has("sdmx-ml"):
             (files.folder / self._paths).mkdir(parents=True)
 
-    def add(self, form: str, found: Observed, text: str) -> None:
+    def add(self, form: str, observation: Observed, text: str) -> None:
         """Writes a series in a form."""
-        for name in slices_of(self._series, found.code):
+        for name in slices_of(self._series, observation.code):
             self._forms[form, name].put(text)
-        frequency, _, measure, unit, _, transformation = found.key
+        frequency, _, measure, unit, _, transformation = observation.key
         is_index = (frequency, measure, unit, transformation) == self._index
-        if form == "sdmx-ml" and (is_index or is_headline(self._series, found.code)):
-            name = f"{self._head}_{'_'.join(found.key)}<{self._rest}{text}{DATA_END}"
-            self._files.write(f"{self._paths}/{'.'.join(found.key)}", name.encode())
+        if form == "sdmx-ml" and (is_index or is_headline(self._series, observation.code)):
+            name = f"{self._head}_{'_'.join(observation.key)}<{self._rest}{text}{DATA_END}"
+            self._files.write(f"{self._paths}/{'.'.join(observation.key)}", name.encode())
 
     def end(self) -> None:
         """Writes the ends of the slices."""
@@ -353,7 +353,9 @@ class Archives:
             # (a month that is final from now on has another status)
             made[year] = its_sum = f"{its_sum} {' '.join(provisional)}" if provisional else its_sum
             name, is_same = f"data/{YEARS}/{year}.zip", self._before.made.get(year) == its_sum
-            self._years_to = max(it for it in self._series.every if it <= span.last) if is_same else self._years_to
+            self._years_to = (
+                max(table for table in self._series.every if table <= span.last) if is_same else self._years_to
+            )
             if not is_same or not self._before.take(name, folder / YEARS / f"{year}.zip"):
                 self._write(span, folder / YEARS / f"{year}.zip", lambda what: now(f"{year}: {what}"))
         made["/".join(self._span)] = [self.made_of(self._span, self.unexplained), sorted(self.unexplained)]
@@ -383,7 +385,7 @@ class Archives:
             for vintage in self._series.vintages
             if vintage.month <= span.last
         ]
-        hidden = sorted(it for it in unexplained if it[0] <= span.last)
+        hidden = sorted(change for change in unexplained if change[0] <= span.last)
         own = self._config
         # (which has no part in these files: what only pages say, releases to come, and what earlier releases had)
         config = own._replace(
