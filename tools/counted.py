@@ -35,6 +35,9 @@ VAGUE = frozenset({"it", "found"})
 """Names of variables that don't say what they are."""
 
 COMPANIONS, BENCHES = "tools/cpi_tools/", "bench/"
+PROGRAMS = ("tools/", "tests/", "bench/", "examples/", "ops/")
+"""The folders whose variables are counted when their names are VAGUE."""
+
 MOST_FILES = 30
 """A folder of the companions has at most so many files."""
 
@@ -101,7 +104,7 @@ def lemma_names() -> list[str]:
 def literals(part: str) -> list[str]:
     """Numbers of seven and more digits without a `_`, which code has, so in clauses and definitions; examples aside."""
     files = (lines for file, lines in texts(part) if not file.endswith(("Examples.antt", "WorkedRows.antt")))
-    return [element for lines in files for line in lines if not is_comment(line) for element in LITERAL.findall(line)]
+    return [digits for lines in files for line in lines if not is_comment(line) for digits in LITERAL.findall(line)]
 
 
 def is_comment(line: str) -> bool:
@@ -150,11 +153,11 @@ def short_proofs() -> list[str]:
 def never_called() -> list[str]:
     """Public functions that `main` of `cpi` doesn't reach: a function reaches each that has a name which its body has.
     As a name may be that of several functions, some that are never called aren't found."""
-    found = functions()
-    named = {function.name for function in found}
+    known_functions = functions()
+    named = {function.name for function in known_functions}
     reaches: dict[str, set[str]] = defaultdict(set)
-    for function in found:
-        code = " ".join(it for it in function.body if not is_comment(it))
+    for function in known_functions:
+        code = " ".join(line for line in function.body if not is_comment(line))
         reaches[function.name] |= named & set(WORD.findall(code))
     seen, left = {"main"}, ["main"]
     while left:
@@ -163,7 +166,7 @@ def never_called() -> list[str]:
         left.extend(new)
     return [
         f"{function.file}:{function.line} {function.name}"
-        for function in found
+        for function in known_functions
         if function.is_public and function.name not in seen
     ]
 
@@ -192,7 +195,7 @@ def by_crate(places: list[str]) -> Counter[str]:
 
 def modules() -> list[str]:
     """The modules of the companions, from tools/cpi_tools on."""
-    return sorted(it for it in written_in("python") if it.startswith(COMPANIONS) and it.endswith(".py"))
+    return sorted(file for file in written_in("python") if file.startswith(COMPANIONS) and file.endswith(".py"))
 
 
 def module_names_twice() -> list[str]:
@@ -206,12 +209,17 @@ def module_names_twice() -> list[str]:
 def wide_folders() -> list[str]:
     """The folders of the companions with more than MOST_FILES files."""
     folders = Counter(path.parent for path in (TOP / COMPANIONS).rglob("*.*") if "__pycache__" not in path.parts)
-    return sorted(f"{it.relative_to(TOP)}: {count}" for it, count in folders.items() if count > MOST_FILES)
+    return sorted(f"{folder.relative_to(TOP)}: {count}" for folder, count in folders.items() if count > MOST_FILES)
 
 
 def benches() -> list[str]:
     """The programs of bench/ in Python, and their modules."""
-    return sorted(it for it in written_in("python") if it.startswith(BENCHES))
+    return sorted(file for file in written_in("python") if file.startswith(BENCHES))
+
+
+def programs() -> list[str]:
+    """All Python of the folders PROGRAMS: tools, tests, benches, examples, and what runs an office."""
+    return sorted(file for file in written_in("python") if file.startswith(PROGRAMS))
 
 
 def python_names(files: list[str], kinds: tuple[type[ast.AST], ...]) -> Iterator[tuple[str, str]]:
@@ -229,9 +237,11 @@ def told() -> list[str]:
     return [at for at, name in python_names(modules() + benches(), kinds) if name == "told"]
 
 
-def vague_names() -> list[str]:
-    """Parameters and variables of the benches with a name that doesn't say what they are."""
-    return [at for at, name in python_names(benches(), (ast.arg, ast.Name)) if name in VAGUE]
+def vague_names(folder: str = "") -> list[str]:
+    """Each place of PROGRAMS, or of one of its folders, that has a parameter or variable whose name doesn't say what it
+    is."""
+    files = [file for file in programs() if file.startswith(folder)]
+    return [at for at, name in python_names(files, (ast.arg, ast.Name)) if name in VAGUE]
 
 
 def python_participles() -> list[str]:

@@ -11,6 +11,9 @@ import pytest
 MOST_MODULES, MOST_WIDE = 235, 0
 """The companions have at most so many modules, and so many folders with over 30 files."""
 
+MOST_VAGUE = {"tools/": 1588, "tests/": 2119, "bench/": 0, "examples/": 20, "ops/": 0}
+"""The Python of each folder has at most so many places with a variable named it or found. A bound may only fall."""
+
 NAMES = """\
 class Change:
     def moved(self) -> int: ...
@@ -20,8 +23,9 @@ class Change:
 def made() -> None: ...
 def put(told: str) -> None: ...
 def need(exceed: int) -> None: ...
-def find_made() -> None:
+def find_made(found: int) -> None:
     it = 1
+    row = [it for it in ()]
 """
 
 
@@ -30,8 +34,14 @@ def test_the_names_of_the_companions_and_the_benches_are_verbs() -> None:
     assert counted.told() == []
 
 
-def test_the_variables_of_the_benches_say_what_they_are() -> None:
-    assert counted.vague_names() == []
+@pytest.mark.parametrize(("folder", "most"), MOST_VAGUE.items())
+def test_variables_say_what_they_are(folder: str, most: int) -> None:
+    assert len(counted.vague_names(folder)) <= most
+
+
+def test_the_variables_of_every_folder_are_counted() -> None:
+    assert set(MOST_VAGUE) == set(counted.PROGRAMS)
+    assert {"bench/run", "tests/conftest.py", "tools/counts"} <= set(counted.programs())
 
 
 def test_modules_and_wide_folders_stay_within_their_bounds() -> None:
@@ -45,6 +55,13 @@ def test_a_participle_is_found_and_a_verb_is_not(tmp_path: Path, monkeypatch: py
     monkeypatch.setattr(counted, "TOP", tmp_path)
     monkeypatch.setattr(counted, "modules", list)
     monkeypatch.setattr(counted, "benches", lambda: ["names.py"])
+    monkeypatch.setattr(counted, "programs", lambda: ["names.py"])
     assert counted.python_participles() == ["names.py:6: made", "names.py:2: moved", "names.py:4: _said"]
     assert counted.told() == ["names.py:7: told"]
-    assert counted.vague_names() == ["names.py:10: it"]
+    assert sorted(counted.vague_names()) == [
+        "names.py:10: it",
+        "names.py:11: it",
+        "names.py:11: it",
+        "names.py:9: found",
+    ]
+    assert counted.vague_names("bench/") == []
