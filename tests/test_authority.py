@@ -28,10 +28,9 @@ BOUND = re.compile(
 """A type that can do some of what the runtime can. (`Eprint` isn't one: it only prints to standard error.)"""
 
 RENAMED = re.compile(
-    r"\b(?:HostRuntime|LibcRuntime) as\b|^(?:pub(?:\([a-z]+\))? )?type\s+\w+\s*=\s*&?(?:HostRuntime|LibcRuntime)\b",
-    re.M,
+    r"\b(?:HostRuntime|LibcRuntime) as\b|\btype\s+(?!Folder = HostRuntime;)\w+\s*=\s*&?(?:HostRuntime|LibcRuntime)\b"
 )
-"""Another name of it. (A type within an impl is one of a trait, and no name for others.)"""
+"""Another name of it. (The runtime is the folder of a run on the machine: a type of a trait, and no name for others.)"""
 
 
 HOLDERS = {
@@ -144,6 +143,7 @@ def test_a_file_that_asks_for_a_part_of_it_is_found(line: str, is_found: bool) -
         ("type Host = &LibcRuntime;", True),
         ("use std::rt::HostRuntime;", False),
         ("    type Folder = HostRuntime;", False),
+        ("    type Host = HostRuntime;", True),
     ],
 )
 def test_another_name_of_it_is_found(line: str, is_found: bool) -> None:

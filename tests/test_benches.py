@@ -49,8 +49,9 @@ FREEZES = [*rows("2025-12/2026-01/2026-02", 5), row("the table", 2)]
 FILED = [
     rf"{month}\s+{kind}(\s+{N}){{3}}" for month in ("2025-12", "2026-01", "2026-02") for kind in ("processor", "wall")
 ]
-STATUSES = r"(none|([\d,]+ by (\d+|nothing)(, )?)+)"
-WAITS = rf"\| (port|front).* \| {N} \| {N} \| {STATUSES} \|"
+SOME = r"([\d,]+ by (\d+|nothing)(, )?)+"
+STATUSES = rf"(none|{SOME})"
+WAITS = rf"\| (port|front).* \| {N} \| {N} \| {SOME} \|"
 WHO = "nobody|no key|a key that nobody bears|one key|ten keys"
 
 AGED = [

@@ -6,7 +6,7 @@ meets, and only that one is refused (lib/refused.c counts them). Either one requ
 done: all other lines are those of a run without it, and the record after it, which is the same, is answered as the
 first one would have been. Or the program ends with status 1 and `cpi: out of memory` (over a file perhaps `cpi:
 database failed`), and its lines are whole and the first of the run's. Or no line changes, but
-only if the case freezes a month: samples that find no room at a freeze are made when they are read.
+only if the growth is one of a freeze: samples that find no room there are made when they are read.
 
 Over a file it is up to 200 growths a case, evenly spread. There what is read may be kept in memory or not, so that no
 request need be told 90; and a further run is shown by the file what the commands that were answered left, and of a run
@@ -68,9 +68,14 @@ class InMemory:
         self.library, self.told = library, list[int]()
         self.stream = Stream(program, name, records_of_case(name), times=2)
         self.records = self.stream.sent + self.stream.views
-        self.freezes = any(b",freeze," in record for record in self.records)
         self.whole = self.stream.answered(self.records)
-        self.count = self.stream.counted(library, "memory", self.records)
+        self.count = self.count_of(len(self.records))
+        freezes = [at for at, record in enumerate(self.records) if b",freeze," in record]
+        self.freezing = [range(self.count_of(at) + 1, self.count_of(at + 1) + 1) for at in freezes]
+
+    def count_of(self, records: int) -> int:
+        """The growths of a run of so many first records."""
+        return self.stream.counted(self.library, "memory", self.records[:records])
 
     @functools.lru_cache(None)
     def without(self, at: int) -> list[bytes]:
@@ -82,7 +87,8 @@ class InMemory:
         ran = self.stream.run(self.records, env=self.library.environment("memory", number))
         lines = ran.lines()
         places = [at for at, line in enumerate(lines) if line == UNAVAILABLE]
-        if ends_early(ran, self.whole) or self.freezes and (ran.status, ran.err, lines) == (0, b"", self.whole):
+        is_of_a_freeze = any(number in growths for growths in self.freezing)
+        if ends_early(ran, self.whole) or is_of_a_freeze and (ran.status, ran.err, lines) == (0, b"", self.whole):
             return None
         if ran.status or ran.err or len(places) != 1:
             return f"{ran}, {len(places)} replies of 90"

@@ -87,7 +87,7 @@ def frozen(application: Application, person: Person) -> str:
 
 def without_duration(words: str) -> str:
     """The words of a page without those that say how long its work took last, which a restart forgets."""
-    return re.sub(r" Last time, it took about [^.]*\.", "", words)
+    return re.sub(r" Last time, it took about [^.]{1,40}\.", "", words, count=1)
 
 
 def test_a_freeze_ends_on_a_receipt_that_stays(cpi: Cpi, prepared: Application, ada: Person) -> None:

@@ -86,9 +86,9 @@ GLYPHS = re.compile(rb"<[0-9a-f]{4}> <([0-9a-f]+)>")
 def test_each_letter_is_a_glyph_of_its_own(english: bytes) -> None:
     """The *i* of *Office* has its dot: the glyph that DejaVu Sans has for *fi* has none."""
     streams = re.findall(rb"stream\r?\n(.*?)\r?\nendstream", english, re.DOTALL)
-    whole = b"".join(zlib.decompress(it) if it[:1] == b"x" else it for it in streams)
-    letters = {bytes.fromhex(it.decode()).decode("utf-16-be") for it in GLYPHS.findall(whole)}
-    assert {"O", "f", "i", "c", "e"} < letters and {len(it) for it in letters} == {1}, letters
+    whole = b"".join(zlib.decompress(stream) if stream[:1] == b"x" else stream for stream in streams)
+    letters = {bytes.fromhex(glyph.decode()).decode("utf-16-be") for glyph in GLYPHS.findall(whole)}
+    assert {"O", "f", "i", "c", "e"} < letters and {len(letter) for letter in letters} == {1}, letters
 
 
 @pytest.mark.parametrize(

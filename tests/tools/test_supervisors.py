@@ -402,7 +402,9 @@ def test_no_word_is_left_in_english(cpi: Cpi, tmp_path: Path, monkeypatch: pytes
     speech = speech_of(nobodys_in(tmp_path, monkeypatch))
     file = tmp_path / "office.db"
     assert [reply for reply in cpi.replay([OFFICE], db=file) if "refused" in reply] == []
-    with applied(cpi, file, tmp_path / "room", Chosen(speech=speech, supervisors=written(tmp_path, FILE))) as application:
+    with applied(
+        cpi, file, tmp_path / "room", Chosen(speech=speech, supervisors=written(tmp_path, FILE))
+    ) as application:
         stranger, yara, xena = Visitor(application), Visitor(application, YARA), Visitor(application, XENA)
         pages: Sequence[Any] = (
             stranger.get("/team/sign-in"),

@@ -655,8 +655,8 @@ def test_weights_that_do_not_add_up_to_all_are_told(
     of["classification"][6][3], of["classification"][8][3] = weights
     folder = written(tmp_path / "office", of)
     assert run(cpi, "take-in", folder, "--check", "--weights", unit).status == status
-    becauses = [it["because"] for it in told_of(folder, "problem" if status else "warning")]
-    assert told in becauses if told else not becauses
+    reasons = [it["because"] for it in told_of(folder, "problem" if status else "warning")]
+    assert told in reasons if told else not reasons
 
 
 def test_the_page_has_texts_as_texts_and_no_key(cpi: Cpi, tmp_path: Path) -> None:

@@ -1,5 +1,5 @@
 -- The world of a run.
-use Rattle.std.specs.Prelude.{◌≡◌, ◌×◌, ◌⊎◌}
+use Rattle.std.specs.Prelude.{◌≡◌, ◌⊎◌}
 use Rattle.cpi_app.specs.declared.fault.RunFault.{RunFault}
 use Rattle.cpi_app.specs.declared.fault.RunFault.TheVariants.{BadWord, Wire}
 use Rattle.cpi_wire.specs.declared.fault.WireFault.TheVariants.{NoMemory}

@@ -1,5 +1,6 @@
 //! The world of a run of the program: its arguments, its streams, its folder, its network and its clock.
 ghost use Rattle.std.specs.Prelude.{◌≡◌, ◌⊎◌, ℕ, List, IfOk, IfErr, map, string_bytes};
+ghost use Rattle.cpi_app.specs.declared.fault.RunFault.{RunFault};
 ghost use Rattle.cpi_files.specs.World.{AreUnread};
 ghost use Rattle.cpi_files.specs.declared.world.Ends.{Ends};
 
