@@ -95,8 +95,8 @@ def test_each_line_of_the_program_has_words() -> None:
         ({"refused": 44, "fault": 4, "found": 9}, DESK, "plan", "the weights don't add up to 1,000,000"),
         ({"refused": 44, "fault": 8}, DESK, "plan", "the plan places an item at an elementary aggregate without a weight"),
         ({"refused": 44, "fault": 8}, DESK, "freeze", "a code on the carry list has no weight this year"),
-        ({"refused": 41}, DESK, "assign", "the item, outlet or collector isn't registered; for a hand-over, 43: one of the"
-         " two collectors isn't"),
+        ({"refused": 41}, DESK, "assign", "the item, outlet or collector (in a hand-over, either collector) isn't"
+         " registered"),
         ({"refused": 99}, DESK, None, "refusal 99"),
     ],
 )  # fmt: skip

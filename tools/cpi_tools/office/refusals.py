@@ -76,7 +76,7 @@ REFUSALS: tuple[Refusal, ...] = (
         41,
         42,
         43,
-        because="the item, outlet or collector isn't registered; for a hand-over, 43: one of the two collectors isn't",
+        because="the item, outlet or collector (in a hand-over, either collector) isn't registered",
         do="register it first",
     ),
     desk(
@@ -132,8 +132,8 @@ REFUSALS: tuple[Refusal, ...] = (
     desk(
         50,
         word="calendar",
-        because="the month is frozen, and a later one is too, or it has nine revisions, or the new"
-        " release time isn't later than the last one",
+        because="this row can't reopen the frozen month: a later month is frozen too, the month has nine revisions, or"
+        " the new release time isn't later than the last one",
         do="set a later release time, or leave the month as it is",
     ),
     desk(
