@@ -29,7 +29,7 @@ from typing import NamedTuple
 
 import pytest
 
-from lib.documents import all_words, document_faults, draw_arrows, drawing_faults
+from lib.documents import all_words, document_faults, draw_arrows, drawing_faults, record_faults
 from lib.fault import Fault
 from lib.places import ROOT
 from lib.program import Going, Program
@@ -159,6 +159,45 @@ def test_a_document(name: str) -> None:
 
 def test_the_words_of_all_documents() -> None:
     assert all_words() is None
+
+
+DATED = "**7. A sheet has one code** (2026-12-01)"
+
+
+@pytest.mark.parametrize(
+    "reason",
+    [
+        ", instead of two. Collectors scan it.",
+        ", not two. Collectors scan it.",
+        ": with two, a collector would scan the wrong one. So it is large.",
+        ": a second code wouldn't be scanned. So it is large.",
+    ],
+)
+def test_a_record_says_what_it_was_chosen_against(reason: str) -> None:
+    assert [*record_faults(f"{DATED}{reason}\n")] == []
+
+
+@pytest.mark.parametrize(
+    "reason",
+    [
+        ": collectors scan it.",
+        ". It has one instead of two.",
+        ", for collectors. It has one, not two.",
+        ": collectors scan it. With two codes, they would scan the wrong one.",
+        ". Two wouldn't do: a collector would scan the wrong one.",
+    ],
+)
+def test_a_record_that_says_it_nowhere_or_later_is_refused(reason: str) -> None:
+    (fault,) = record_faults(f"{DATED}{reason}\n")
+    assert fault.startswith(f"a record that doesn't say what it was chosen against: {DATED}")
+
+
+def test_a_record_has_a_date_and_a_number_of_its_own() -> None:
+    dated, undated = f"{DATED}, not two.", "**7. A sheet has one code**, not two."
+    assert [*record_faults(f"{dated}\n\n{undated}")] == [
+        f"a record without a date: {undated}..",
+        "two decisions have the number 7",
+    ]
 
 
 def test_the_functions_that_run_a_statement_outside_of_a_transaction_are_named() -> None:

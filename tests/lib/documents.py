@@ -6,7 +6,7 @@
 `claim_faults`   where a function is named with its clauses, or a definition with its file, it has them.
 `promise_faults` each sentence of PROMISE names the heading of PROOF that carries it.
 `script_faults`  each script and each file of tests of a folder has its line in the folder's README.
-`record_faults`  each record of DECISIONS has a number of its own, a date, and what it replaced.
+`record_faults`  each record of DECISIONS has a number of its own, a date, and what it was chosen against.
 `running_faults` RUNNING tells what the shipped program needs, and what to do at each line of a fault.
 `example_faults` the example of FORMATS is the case of tests/cases that it names.
 `theorem_faults` THEOREM says of each statement how many definitions it rests on (theorem.py).
@@ -389,14 +389,19 @@ def running_faults(text: str) -> Iterator[str]:
 RECORD = re.compile(r"^\*\*(\d+)\. ", re.M)
 DATED = re.compile(r"\*\*\d+\. .*?\*\* \(\d{4}-\d{2}-\d{2}\)")
 
+ALTERNATIVE = re.compile(r"[^.]*?(?:\binstead of\b|, not |: [^.]*\bwould)")
+"""What a record was chosen against: "instead of" or ", not " before the alternative, or what it would or wouldn't do,
+after a colon. The record says so between its date and the first full stop after it."""
+
 
 def record_faults(text: str) -> Iterator[str]:
-    """Each record has a date, what it was chosen instead of, and a number that no other decision has."""
+    """Each record has a date, what it was chosen against, and a number that no other decision has."""
     for part in (paragraph for _, paragraph in paragraphs(text) if RECORD.match(paragraph)):
-        if not DATED.match(part):
+        date = DATED.match(part)
+        if not date:
             yield f"a record without a date: {part[:60]}.."
-        if "nstead of" not in part:
-            yield f"a record that doesn't say what it replaced: {part[:60]}.."
+        elif not ALTERNATIVE.match(part, date.end()):
+            yield f"a record that doesn't say what it was chosen against: {part[:60]}.."
     every = numbers_in(text)
     yield from (
         f"two decisions have the number {number}"
