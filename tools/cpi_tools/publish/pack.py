@@ -1,7 +1,7 @@
-"""`cpi-tools publish`: everything that a user of the index takes home, as data files and as a website.
+"""`cpi-tools publish`: everything that users of the index download, as data files and as a website.
 
-The tables come only by the public way (`office/public.py`), so no file that is written here can hold a figure under
-embargo. Nothing depends on the clock: the same published tables give the same bytes.
+The tables are read only as the public reads them (`office/public.py`), so no file that is written here can contain a
+figure under embargo. Nothing depends on the clock: the same published tables give the same bytes.
 """
 
 from __future__ import annotations
@@ -96,15 +96,14 @@ class CannotPublish(Fault):
 
 
 Previous = Callable[[Sequence[Change]], Optional[str]]
-"""The SHA-256 of the manifest before one that has some changes."""
+"""The SHA-256 of the manifest that precedes a manifest with the given changes."""
 
 
 class Pack(NamedTuple):
-    """The sources of a pack: its tables, who publishes, and of the pack before, if there is one, the SHA-256 of its
-    manifest, what packs changed, the versions of artefacts of SDMX, and the moments that were announced; what signs
-    a manifest and what draws cards, if anything does, and the special aggregates, the quality in figures, the core
-    measures, the average prices and the adjusted series that packs before have, and how PDFs of releases are
-    written."""
+    """The sources of a pack: its tables and its publisher; from the previous pack, if there is one, the SHA-256 of its
+    manifest, the changes in earlier packs, the versions of SDMX artefacts, and the announced moments; what signs the
+    manifest and what draws cards, if anything does; the special aggregates, the quality in figures, the core measures,
+    the average prices and the adjusted series of earlier packs; and how PDFs of releases are written."""
 
     series: Series
     config: Config
@@ -134,8 +133,8 @@ class Last(NamedTuple):
 
     def refuse_changes(self, series: Series, config: Config, reasons: Reasons) -> Earlier:
         """Raises Fault if a table, a figure of a special aggregate, of a core measure or of an adjusted series that may
-        not change, or one of its reasons, differs or is missing now; otherwise returns what its pages of releases are
-        compared with.
+        not change, or one of the pack's published reasons, differs or is missing now; otherwise returns what the new
+        pages of this pack's releases are compared with.
         """
         changed = next(changed_since(self.manifest, series), None)
         if changed:
@@ -158,7 +157,7 @@ def _read_last(path: Path) -> Last:
 def write_pack(pack: Pack, folder: Path, now: Now, before: Before) -> None:
     """Writes all files of a pack into an empty folder; files that are the same in the previous pack are taken from
     it."""
-    # (here, since the packages of its pages needn't be there for the other tools)
+    # (imported here, since the other tools don't need the packages that the pages need)
     from .releases.quality_figures import write_quality
     from .site.sites import Shared, write_sites
     from .site.csvw import write_sqlite
@@ -213,7 +212,8 @@ def joined_lines(one: Mapping[str, Sequence[str]], other: Mapping[str, Sequence[
 
 
 def _write_tables(series: Series, folder: Path, before: Before) -> dict[str, str]:
-    """Writes the bytes of the program, or takes existing ones; returns their sums by their names in the pack."""
+    """Writes the tables as the program printed them, or takes existing files; returns their sums by their names in the
+    pack."""
     folder.mkdir(parents=True)
     sums = {}
     for source in series.sources:
@@ -225,7 +225,8 @@ def _write_tables(series: Series, folder: Path, before: Before) -> dict[str, str
 
 
 def _write_manifest(pack: Pack, made: Made, files: NewFiles) -> Optional[Signature]:
-    """Writes the changes since the pack before and the manifest, which names them, and its signature if it is signed."""
+    """Writes the changes since the previous pack, then the manifest, which names them, and the manifest's signature if
+    it is signed."""
     changes, sums = write_changes(pack.changes, made, files.folder)
     files.sums.update(sums)
     manifest = manifest_text(pack.series, pack.previous(changes), changes).encode()
@@ -246,9 +247,9 @@ def publish(
     key: Optional[Path] = None,
     tell: Callable[[str], None] = lambda _: None,
 ) -> Series:
-    """Writes a pack next to the folder `out` and puts it in its place; its tables.
+    """Writes a pack next to the folder `out`, and puts the pack in the folder's place; returns the pack's tables.
 
-    A draft is readable only for its owner, and takes the place of no pack that others can read. `before` is the
+    A draft is readable only by its owner, and takes the place of no pack that others can read. `before` is the
     previous manifest, by default the manifest of an existing pack in `out`. `key` signs the manifest. `tell` gets a
     line if pages of earlier releases no longer say the same. Raises Fault, and leaves `out` as it is, if a table, a
     figure of a special aggregate or a reason that was published differs or is missing now, or if a pack that is signed
@@ -366,7 +367,7 @@ def check(published: Iterable[Published], config: Config, out: Path, before: Opt
             new.mkdir()
             with compared_only():
                 chain = previous, changes, versions_after([out]), announced_in([out])
-                # (other figures than those of the pack are differences, and need no reason)
+                # (figures that aren't the pack's are differences, and need no reason)
                 quality = [kept_quality(out)._replace(figures=())]
                 pack = Pack(
                     series,
@@ -478,7 +479,8 @@ def _tell_unknown(config: Config, series: Series) -> None:
 
 
 def _tell_unsaid(config: Config, series: Series) -> None:
-    """A line on standard error for each name in the sentences of the newest month that has no figures in it."""
+    """A line on standard error for each name in the sentences of the newest month if the name has no figures in that
+    month."""
     month = series.months[-1]
     rows = {name: special.rows for name, special in series.specials.items()} | {
         name: core.rows for name, core in series.core.items()
@@ -489,8 +491,8 @@ def _tell_unsaid(config: Config, series: Series) -> None:
 
 
 def _refuse_what_is_to_come(chosen: argparse.Namespace) -> None:
-    """Refuses a time in the future: a mistake in it would write tables that are under embargo now; with --draft it
-    is meant."""
+    """Refuses a time in the future: if it were a mistake, tables that are under embargo now would be written; with
+    --draft, a future time is intended."""
     if chosen.at > time.time() and not chosen.draft:
         raise CannotPublish(
             f"--at {chosen.at} is {time_text(chosen.at)}, which is still to come: its tables may be under embargo now"
