@@ -39,15 +39,15 @@ from .site_config import NAME as DEADLINES, Deadlines, OnceARequest, SiteConfig,
 from .watched_office import Copies, Copy, Durations, Expected, Observed, Office, Seen
 
 
-# ==== a thread that follows the office: each half minute it makes a right copy, if the office's file changed, and notes
-# what is new
+# ==== a thread that follows the office: every half minute it makes a consistent copy, if the office's file changed, and
+# notes what is new
 
 EVERY = 30
 """Seconds from one look to the next while somebody is at the desk."""
 
 IDLE = 600
-"""Seconds from one look to the next while nobody is at the desk: so many seconds after the last page was asked for,
-nobody is."""
+"""Seconds from one look to the next while nobody is at the desk; also the seconds without a request for a page after
+which the desk counts as empty."""
 
 ChooseMonth = Callable[[StoredOffice, int], Optional[int]]
 """Chooses a month of an office at a moment, in seconds since 1970 UTC; None if there is none."""
@@ -70,18 +70,18 @@ class Watch:
         self._thread = threading.Thread(target=self._follow, daemon=True, name="watch")
 
     def start(self) -> None:
-        """Begins to follow."""
+        """Begins to follow the office."""
         self._thread.start()
 
     def stop(self) -> None:
-        """Ends it."""
+        """Stops following the office."""
         self._is_over = True
         self._wake.set()
         if self._thread.is_alive():
             self._thread.join()
 
     def person_came(self) -> None:
-        """Somebody signed in: the next page is of now, or says why it can't be."""
+        """Somebody signed in: the next page is up to date, or says why it can't be."""
         self._is_of_now = False
 
     def note_change(self) -> None:
@@ -89,8 +89,8 @@ class Watch:
         self._is_stale = True
 
     def glance(self, month: Optional[int] = None, choose: ChooseMonth = month_at) -> Glance:
-        """A month at a glance, by the latest copy; if none is named the one that is chosen, such as that at which the desk
-        works. Raises Fault."""
+        """A month at a glance, by the latest copy; if no month is named, the one that `choose` returns, such as the
+        month on which the desk is working. Raises Fault."""
         self._asked_at = time.monotonic()
         if self._is_stale:
             self._is_stale, self._is_of_now = False, True
@@ -141,7 +141,7 @@ class Watch:
             raise
 
     def _note(self, glance: Glance) -> None:
-        """Notes how far a month is whose window is open for the first time."""
+        """Notes how far along a month is if its window is open for the first time."""
         window, share = glance.state.window, glance.share
         if window.opens <= glance.at < window.closes and not glance.state.revision:
             weighed = -1 if share.weighed is None else share.weighed
@@ -157,7 +157,7 @@ class Watch:
             self._wake.clear()
 
     def _try(self) -> None:
-        """Renews, and keeps why it couldn't, whatever that is: the thread continues."""
+        """Renews; if that fails, keeps the reason, whatever it is: the thread continues."""
         try:
             self.renew()
             self.fault = Worded("")
@@ -177,12 +177,12 @@ FIELD_NOTES, FIELD_QUESTIONS = "field-notes.db", "field-questions.db"
 
 
 class Given(NamedTuple):
-    """The arguments: the office's URL and file, the application's folder, the program, after how many idle seconds a
-    session ends, the office's clock, the folder of copies, how many quotes a trial leaves out in turn, for how many
-    months field notes and questions to collectors are kept, 0 if there are none, the address of the front that
-    collectors reach, if sheets with their keys are printed here, how the pages speak, the folder of the website, if it
-    is written here, from how many millionths of a point on a price that nobody has seen needs a reason at a freeze, the
-    file of the second key, and that of the supervisors, if there are such files.
+    """The arguments: the office's URL and file; the application's folder; the program; the number of idle seconds after
+    which a session ends; the office's clock; the folder of copies; the number of quotes that a trial leaves out in
+    turn; the number of months for which field notes and questions to collectors are kept, 0 if there are none; the
+    address of the front that collectors reach, if sheets with their keys are printed here; how the pages speak; the
+    folder of the website, if it is written here; the number of millionths of a point from which a price that nobody has
+    seen needs a reason at a freeze; and the files of the second key and of the supervisors, if there are such files.
     """
 
     url: str
@@ -206,7 +206,7 @@ class Desk:
     """An application at work."""
 
     def __init__(self, given: Given):
-        """Raises Fault if the log or a file of the folder can't be taken."""
+        """Raises Fault if the log or a file in the folder can't be opened, locked or read."""
         self.given, self.cpi = given, Cpi(given.program)
         self.site_config = SiteConfig(given.site.config if given.site else None, given.speech.language.tag)
         self.teller = Teller(given.speech, given.clock, OnceARequest(self.site_config.money))
@@ -226,7 +226,7 @@ class Desk:
         )
         self.release_drafts = ReleaseDrafts(self.cpi)
         self.since: dict[int, tuple[Tried, Earlier, Section]] = {}
-        """By month what changed since the table of an earlier day, as it was shown last."""
+        """What changed since the table of an earlier day, by month, as it was last shown."""
         self.marks = Marks(given.room / "looks.jsonl")
         self.prepared = PreparedFreeze(given.room / "prepared-freeze.json")
         self.reasons = RevisionReasons(given.room / "revision-reasons.json", self.log)
@@ -277,7 +277,7 @@ class Desk:
                 self.deadlines.renew()
 
     def _look_up(self, records: Sequence[Sequence[str]], since: int) -> list[Reply]:
-        """The replies to records that a copy of the office's file, taken now, contains."""
+        """The replies to records, according to a copy of the office's file that is taken now."""
         with self.copies_now() as copy:
             return looked_up(self.cpi, copy.path, records, since)
 
@@ -289,7 +289,7 @@ class Desk:
             yield copy
 
     def close(self) -> None:
-        """Ends it; the copies go."""
+        """Stops the desk, and removes its copies."""
         self.watch.stop()
         if self.publisher:
             self.publisher.stop()
