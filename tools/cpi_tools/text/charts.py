@@ -2,8 +2,8 @@
 a picture.
 
 Each picture has a title and a description, which a screen reader reads out. It is 400 units wide and is shown at 300 to
-560 pixels, so that its letters stay readable on a phone. Names are outside the picture, in the page, so none can cross
-an axis. A month is a text like `2026-01`; colours and letters come from `templates/style.css`.
+560 pixels, so that its text stays readable on a phone. Names are outside the picture, in the page, so none can cross an
+axis. A month is a text like `2026-01`; colours and fonts come from `templates/style.css`.
 """
 
 from __future__ import annotations
@@ -21,10 +21,11 @@ WIDTH, HEIGHT = 400, 224
 LEFT, RIGHT, TOP, FOOT = 40, 14, 16, 41
 
 MOST_MONTHS = 61
-"""The most months that a picture shows: the last five years, and the month with which they are compared."""
+"""The greatest number of months that a picture shows: the last five years, and the month with which they are
+compared."""
 
 LEAST_POINTS, LEAST_PERCENT = 1.0, 0.5
-"""The least range of the axis of lines and of the axis of columns, so that an axis doesn't exaggerate a tenth."""
+"""The smallest range of the value axis, for lines and for columns, so that an axis doesn't exaggerate a tenth."""
 
 VALUE_WIDE = 44
 """The greatest width of the value at the end of a line, also on a phone."""
@@ -33,7 +34,7 @@ WIDEST = 24
 """The greatest width of a column, however few columns there are."""
 
 OWN, OTHER = "own", "other"
-"""The classes of a line: the item's own, and the compared one, which is broken."""
+"""The classes of a line: the item's own, and the compared one, which is dashed."""
 
 
 def write_signed(value: float) -> str:
@@ -65,7 +66,7 @@ class Line(NamedTuple):
 
 
 def steps(low: float, high: float, most: int = 6) -> list[float]:
-    """Round numbers that span a range, at most so many: 1, 2 or 5 times a power of ten apart."""
+    """Round numbers that span a range, no more than a given number of them: 1, 2 or 5 times a power of ten apart."""
     size = 0.1
     for factor in (2, 2.5, 2) * 6:
         if (high - low) / size <= most - 2:
@@ -104,7 +105,7 @@ class Frame(NamedTuple):
         return _axes(tuple(self.months), tuple(self.marks), self.speech)
 
 
-# (thousands of pictures have the same months, and many the same marks, so what is beside and below them is written once)
+# (thousands of pictures have the same months, and many of them the same marks, so the axes of these are written once)
 
 
 @lru_cache(maxsize=1024)
@@ -127,7 +128,7 @@ def _x(at: float, count: int) -> float:
 
 @lru_cache(maxsize=64)
 def _xs(count: int) -> Sequence[str]:
-    """The middle of each of so many months, as it is written in the SVG."""
+    """The middle of each month, for a given number of months, as it is written in the SVG."""
     return [f"{_x(at, count):.1f}" for at in range(count)]
 
 
@@ -167,9 +168,9 @@ def lines(
     breaks: Collection[str] = (),
     marks: Collection[str] = (),
 ) -> Markup:
-    """Lines over months, the last value of the picture's own written next to it.
+    """Lines over months; the last value of the picture's own line is written next to that line.
 
-    `has_zero` begins the axis at zero, or crosses it there. There is a mark before each month of `breaks` and of
+    With `has_zero`, the axis begins at zero or contains it. There is a mark before each month of `breaks` and of
     `marks`; at a break all lines start again. At least one value must be known.
     """
     months = months[-MOST_MONTHS:]
@@ -218,7 +219,7 @@ def _last(frame: Frame, line: Line, places: Collection[float]) -> Iterator[str]:
     earlier = (value for value in reversed(line.values[:at]) if value is not None)
     before = next((it for it in earlier if it != value), value)
     x, y = frame.x(at), frame.y(value)
-    # (above where the line came from below, below where it came from above; within the picture)
+    # (the value is above the dot of a line that rose, below that of a line that fell, and always within the picture)
     written = max(y - 9, TOP - 2) if value >= before else min(y + 19, HEIGHT - FOOT - 4)
     yield f'<circle class="dot" cx="{x:.1f}" cy="{y:.1f}" r="3.5"/>'
     end = x + 5
@@ -270,7 +271,7 @@ def columns(picture: Picture, months: Sequence[str], values: Sequence[Optional[f
         ("bar", "".join([left + sizes[value] for left, value in earlier if value >= 0])),
         ("bar down", "".join([left + sizes[value] for left, value in earlier if value < 0])),
     ]
-    # (in the order in which they come)
+    # (the kind of the first column is drawn first)
     drawn = drawn[::-1] if earlier and earlier[0][1] < 0 else drawn
     drawn.append(("bar down last" if last < 0 else "bar last", lefts[at] + sizes[last]))
     paths = (f'<path class="{kind}" d="{path}"/>' for kind, path in drawn if path)
@@ -279,13 +280,13 @@ def columns(picture: Picture, months: Sequence[str], values: Sequence[Optional[f
 
 @lru_cache(maxsize=64)
 def _lefts(count: int, wide: float) -> Sequence[str]:
-    """The left edge of each of so many columns."""
+    """The left edge of each column, for a given number of columns."""
     return [f"M{_x(at, count) - wide / 2:.1f} " for at in range(count)]
 
 
 class _Sizes(dict[float, str]):
-    """Columns of some width between the lowest and the highest mark, cached by value: the changes in thousands of
-    pictures have few different sizes."""
+    """Columns of a given width, drawn between the lowest and the highest mark and cached by value: the changes in
+    thousands of pictures have few different sizes."""
 
     def __init__(self, low: float, high: float, wide: float):
         super().__init__()
@@ -334,7 +335,8 @@ def track(values: Sequence[float]) -> Track:
 # ---- the same bars as a picture
 
 BARS_TOP, LABEL_LINE, BAR_HIGH, BAR_ROOM = 4, 16, 9, 12
-"""The free space above all bars, the height of a line of a label and of a bar, and the free space below it."""
+"""The free space above all bars, the height of a label's line, the height of a bar, and the free space below each
+bar."""
 
 VALUE_ROOM = 60
 """The free space for the value next to a label."""
