@@ -90,7 +90,7 @@ def test_what_is_shown_changes_with_the_language_and_nothing_is_lost(phone: Phon
     phone.close()
     phone.wait_told(2, "Typed, not saved")
     browser.run("location.hash = 'key=none'")
-    browser.wait_text("#notice", "The code you opened isn’t a key.")
+    browser.wait_text("#notice", "The link you opened doesn’t contain a key.")
     choose(phone, "ar")
     words = phone.words = type(phone.words)(ARABIC)
     phone.wait_told(1, words.said("Refused"))

@@ -129,7 +129,9 @@ def test_without_a_line_it_is_kept_with_its_price_and_sent_once(noting: Phone, s
     choose(noting, camera_file(tmp_path))
     browser.type("#price", "3.21")
     noting.save()
-    browser.wait_text("#notes-left", "The note will be sent once the office has stored its price.")
+    browser.wait_text(
+        "#notes-left", "The note will be sent once the office has stored the price that the note is about."
+    )
     browser.driver.refresh()
     browser.wait_text("#line", "Offline: 1 entry kept on this phone · 1 note to be sent")
     browser.wait_text("#notes-left", "Rice, white, 1 kg: 3.21")

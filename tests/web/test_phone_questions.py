@@ -266,7 +266,9 @@ def test_once_the_window_has_closed_the_form_says_what_to_write(
     browser.type("#price", "2.16")
     browser.click("#entry-save")
     browser.wait_text("#questions", "Corrected to 2.16")
-    browser.wait_text("#questions", "The answer will be sent once the office has stored its price.")
+    browser.wait_text(
+        "#questions", "The answer will be sent once the office has stored the price that the answer is about."
+    )
     browser.wait_text("#alarm", "1 refused")
     assert len(kept(stage)) == 1
     window(stage, FAR)

@@ -82,8 +82,8 @@ def test_a_link_of_another_collector_throws_nothing_away(phone: Phone, stage: St
     stage.front.stop()
     phone.enter(1, "3.21")
     phone.browser.wait_text("#line", "Offline: 1 entry")
-    words = "Another collector is signed in on this phone. Sign out first, then open the code again."
-    for key, told in ((checked(BENO), words), (BENO[:20], "The code you opened isn’t a key. A key has 32")):
+    words = "Another collector is signed in on this phone. Sign out first, then scan the code again."
+    for key, told in ((checked(BENO), words), (BENO[:20], "The link you opened doesn’t contain a key. A key has 32")):
         phone.browser.run("location.hash = arguments[0]", link(key, "Beno").partition("#")[2])
         phone.browser.wait_text("#notice", told)
         assert "To be sent" in phone.told(1) and phone.browser.run("return location.hash") == ""
@@ -91,7 +91,7 @@ def test_a_link_of_another_collector_throws_nothing_away(phone: Phone, stage: St
     phone.send()
     phone.browser.wait_text("#line", "All sent")
     assert [row[:1] + row[3:4] for row in stage.quotes(ANNA)] == [[1, 321]] and stage.quotes(BENO) == []
-    assert "isn’t a key" in phone.browser.text("#notice")  # (until it was read)
+    assert "doesn’t contain a key" in phone.browser.text("#notice")  # (until it was read)
     phone.browser.click("#notice button")
     assert phone.browser.text("#notice") == "" and phone.browser.text("#who") == ""
 

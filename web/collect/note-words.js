@@ -17,7 +17,7 @@ export function noteInWords({ isSale, brand, quantity, text, hasPhoto }) {
 /** Why a note isn't sent, and what to do. */
 export function whyNotSent({ fault }) {
   const reasons = {
-    price: () => t("The note will be sent once the office has stored its price."),
+    price: () => t("The note will be sent once the office has stored the price that the note is about."),
     moved: () => t("The office’s price has changed since you wrote this note. Open and save the note, or delete it."),
     line: () => t("You are offline. The note will be sent automatically."),
     busy: () => t("The desk’s machine is busy. The note will be sent automatically."),

@@ -18,7 +18,7 @@ export function answerInWords({ what, mark, value, text }) {
 /** Why an answer isn't sent, and what to do. */
 export function whyNotSent({ fault }) {
   const reasons = {
-    price: () => t("The answer will be sent once the office has stored its price."),
+    price: () => t("The answer will be sent once the office has stored the price that the answer is about."),
     moved: () => t("The office’s price has changed since you answered. Open the question and answer again, or delete this answer."),
     line: () => t("You are offline. The answer will be sent automatically."),
     busy: () => t("The desk’s machine is busy. The answer will be sent automatically."),

@@ -36,9 +36,9 @@ async function follow(link) {
   const { key, fault } = readKey(link.text);
   if (state.key && fault) {
     // t: {fault} is a sentence that says what is wrong with the key
-    noticeUntilRead(() => t("The code you opened isn’t a key. {fault}", { fault }));
+    noticeUntilRead(() => t("The link you opened doesn’t contain a key. {fault}", { fault }));
   } else if (state.key && state.key !== key) {
-    noticeUntilRead(() => t("Another collector is signed in on this phone. Sign out first, then open the code again."));
+    noticeUntilRead(() => t("Another collector is signed in on this phone. Sign out first, then scan the code again."));
   } else if (state.key) {
     await store.keepSession(key, link.name || state.name);
     state.name = link.name || state.name;
