@@ -127,7 +127,7 @@ def revisions_of(then: Then, page: Texts) -> Wanted:
     later = [it for it in page.of('p class="result"') if it.startswith("Revision ")]
     numbers = [revision for revision in revisions(then.month) if revision > then.revision]
     yield "later revisions", later, [
-        f"Revision {number} of {named(then.month)} was published {day(then.month, number)}." for number in numbers
+        f"Revision {number} of {named(then.month)} was published on {day(then.month, number)}." for number in numbers
     ]
     notes = [it for it in page.of('p class="note"') if " was revised on " in it]
     yield "revised bases", notes, [*based_on(then)]

@@ -480,7 +480,7 @@ def test_time_lags_are_by_the_clock_of_the_office(published: list[Published], tm
     days = [int(lag) for (month, revision), lag in lags[0].items() if revision == "1"]
     assert f"The first table of May 2027 was published {-days[-1]:,} days before the month ended." in page
     mean = Fraction(sum(days[-12:]), 12)
-    assert f"The mean of the last 12 first releases is {text(mean, 1)} days.".replace("-", "\u2212") in page
+    assert f"Over the latest 12 first releases, the mean is {text(mean, 1)} days.".replace("-", "\u2212") in page
     assert days_after("2026-01", 1_772_267_400, zoneinfo.ZoneInfo("UTC")) == 28
 
 

@@ -386,7 +386,7 @@ def test_titles_are_escaped(site: Path) -> None:
 def test_revisions_and_what_is_against_an_embargoed_one_are_told(site: Path) -> None:
     told = words_of(site / "revisions.html")
     # 15 months of 1,000 seconds after 1970 began, and 990 or 900 seconds
-    moments = "Published 1 January 1970, 04:26 UTC; revision 1 had been published 1 January 1970, 04:25 UTC"
+    moments = "Published on 1 January 1970, 04:26 UTC; revision 1 had been published on 1 January 1970, 04:25 UTC"
     assert f"March 2026, revision 2 {moments}. 6 of 16 levels differ." in told
     assert "May 2027: the monthly change" in told and "the annual change" not in told
     assert "data/tables/2026-03-r1.csv" in (site / "revisions.html").read_text(encoding="utf-8")

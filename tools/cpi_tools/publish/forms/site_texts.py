@@ -59,7 +59,7 @@ FILES: Mapping[str, str] = {
         "The elementary aggregates of each special aggregate, by year, with their weights"
     ),
     "averages.csv": mark_text(
-        "Annual averages and their changes, for years with twelve months; also for the chained level"
+        "Annual averages and their changes, for years with a level in every month; also for the chained level"
     ),
     "twelve-month-rates.csv": mark_text(
         "The mean of twelve months compared with that of the previous twelve, in percent"

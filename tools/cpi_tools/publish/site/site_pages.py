@@ -143,7 +143,7 @@ class CorePage:
         if of.measure == TRIMMED:
             lower, upper = (self._speech.figure(_percent(it)) for it in (of.lower, of.upper))
             return t(
-                "Trimmed mean: the weighted mean without {lower} percent of the total weight at the lower end and {upper} percent at the upper end. An aggregate at a cut counts with the remaining part of its weight.",
+                "Trimmed mean: the weighted mean without {lower} percent of the total weight at the lower end and {upper} percent at the upper end. An aggregate that a cut divides counts only with the part of its weight that remains.",
                 lower=lower,
                 upper=upper,
             )

@@ -171,7 +171,7 @@ function clauseText(chosen, data) {
     t("At each adjustment date, the index that applies is the index of the latest month that the office has published by then."),
     later === "first" ? t("It applies as first published: a later revision of that month changes nothing.")
       : t("Its latest revision at the adjustment date applies: a revision after that date changes nothing."),
-    t("The new amount is the amount, multiplied by the index that applies and divided by the base index."),
+    t("The new amount is the original amount multiplied by the index that applies and divided by the base index."),
     data.digits ? t("It is rounded once, to the nearest {unit}, with halves rounded up.", { unit: figureText(`0.${"1".padStart(data.digits, "0")}`) })
       : t("It is rounded once, to the nearest whole unit, with halves rounded up."),
     fall === "follows" ? t("If the index that applies is lower than the one before, the amount falls with it.")
