@@ -150,7 +150,7 @@ WHAT_IF = ("nonsense", "99/1=missing", "8/1=ten", "01.1.9=x", "8/1=", "8/1=0", "
 def test_what_cannot_be_tried_is_told(ada: Person, text: str) -> None:
     answer = ada.post(f"/month/{MONTH}/what-if", text=text)
     if text == "99/1=missing":
-        assert told(answer, 400, "No collector has the slot 99/1: write a collector and a slot") == []
+        assert told(answer, 400, "No collector has slot 99/1: write a collector and a slot") == []
     else:
         assert told(answer, 400, "Line 1: ", "can't be tried. Write a price like") == []
     assert text in answer.text.partition("<textarea")[2]

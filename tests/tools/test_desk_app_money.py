@@ -115,7 +115,7 @@ def test_what_isn_t_a_price_stays_as_it_was_typed(ada: Person) -> None:
         ("7/1=1000000.01", "Line 1: 7/1=1000000.01 can't be tried. A price must be from 0.01 to 1000000.00 ."),
         ("7/1=0", "Line 1: 7/1=0 can't be tried. Write a"),
         ("7/1=2 20", "Line 1: 7/1=2 20 can't be tried. Write a"),
-        ("\n7/1=2.20\n7/1=missing", "Lines 2 and 3 are both for the slot 7/1: keep only one of them."),
+        ("\n7/1=2.20\n7/1=missing", "Lines 2 and 3 are both for slot 7/1: keep only one of them."),
     ):
         answer = ada.fill(page, "what-if", text=text)
         assert answer.status_code == 400 and says in words_of(answer.text), text
@@ -127,7 +127,11 @@ def test_a_form_of_before_the_currency_s_digits_changed_isn_t_read(application: 
     assert application.desk.site_config.path
     application.desk.site_config.path.write_text(OFFICE + "minor_digits = 3\n", encoding="utf-8")
     answer = ada.give(form, text="7/1=2.20")
-    assert answer.status_code == 409 and "digits were changed" in words_of(answer.text) and "7/1=2.20" in answer.text
+    assert (
+        answer.status_code == 409
+        and "decimal places was changed" in words_of(answer.text)
+        and "7/1=2.20" in answer.text
+    )
 
 
 def test_texts_to_try_are_read_by_the_digits_of_the_currency() -> None:

@@ -150,7 +150,7 @@ def test_prices_that_are_unusual_come_in_the_order_of_their_weight(cpi: Cpi, tmp
         found = application.desk.trials.latest(202602)
         assert found and [(look.name, look.why) for look in found.looks] == [
             ("7/1", ["confirmed"]),
-            ("7/2", ["a replacement of another quality"]),
+            ("7/2", ["a replacement of different quality"]),
         ]
         words = ada.words(f"/month/{MONTH}/looks")
         assert words.index("Slot 7/1") < words.index("Slot 7/2")

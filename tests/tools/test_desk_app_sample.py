@@ -233,7 +233,8 @@ def test_what_was_on_its_way_is_found_in_the_log(
     monkeypatch.setattr(desk.office, "wait", lambda: (_ for _ in ()).throw(NoReply("lost")))
     words = sent(ada, "outlets")
     assert (
-        "0 of 1 row accepted" in words and "no reply yet: the page looks it up before it sends anything else" in words
+        "0 of 1 row accepted" in words
+        and "no reply yet: the page looks this record up before it sends anything else" in words
     )
     assert ada.fill("/sample/outlets", "/drop").status_code == 303
     assert "Not accepted yet 1 " in ada.words("/sample/outlets")

@@ -84,7 +84,7 @@ def test_each_record_of_the_formats_has_a_sentence_in_each_language() -> None:
     [
         (
             ["calendar", "2027-03", "1803877200", "1806197400", "1806400000"],
-            "March 2027: the window opens 1 March 2027, 05:00 UTC (2027-03-01T05:00:00Z) and closes",
+            "March 2027: the window opens on 1 March 2027, 05:00 UTC (2027-03-01T05:00:00Z) and closes on",
         ),
         (
             ["assign", "7", "1", "10", "RICE", "2025-12", "2026-12"],
@@ -170,7 +170,10 @@ def test_a_time_that_the_clock_leaves_out_or_has_twice_is_said() -> None:
 def test_each_page_that_takes_a_window_says_so_before_it_is_sent(application: Application, ada: Person) -> None:
     leaves, shows = "skips 2027-03-28T02:30", "becomes 28 March 2027, 03:30 CEST (2027-03-28T01:30:00Z)"
     window = ["2027-03-01T08:00", "2027-03-28T02:30", "2027-03-30T09:00"]
-    says = "March 2027: the window opens 1 March 2027, 08:00 CET (2027-03-01T07:00:00Z) and closes 28 March 2027, 03:30"
+    says = (
+        "March 2027: the window opens on 1 March 2027, 08:00 CET (2027-03-01T07:00:00Z) and closes on 28 March 2027,"
+        " 03:30"
+    )
     words = ada.words(
         ada.post("/records/judge", text=f"calendar,2027-03,{','.join(window)}\n").headers["Location"],
     )

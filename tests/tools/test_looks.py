@@ -117,7 +117,7 @@ def test_each_page_counts_the_same_prices(application: Application) -> None:
     (part,) = re.findall(r'<h2>Prices to look at <span class="count">([0-9,]+)</span>', table)
     rows, trial = re.findall(r'<tr class="look', shown), application.desk.trials.latest(202602)
     assert trial and int(card) == int(part) == len(rows) == len(trial.looks)
-    assert "a replacement of another quality" in table
+    assert "a replacement of different quality" in table
     assert f"{card} of {card}" in words_of(ada.get(f"/month/{MONTH}/freeze").text)
     slots = [line.split(",")[0] for line in ada.get(f"/month/{MONTH}/table/outliers.csv").text.splitlines()[1:]]
     assert "7/2" in slots and len(slots) == len(rows)

@@ -39,7 +39,7 @@ from .publication import Publisher, Site
 REASON = "reason"
 NO_SITE = _(
     "The desk can't save the reason: the application was started without the website's options (--site and"
-    " --site-config). Write the reason into the file named by the setting revisions in the website's configuration."
+    " --site-config). Write the reason in the file that the website's configuration names in its setting 'revisions'."
 )
 CHANGED = _("Somebody is changing the file of reasons at the moment.")
 

@@ -128,8 +128,8 @@ def by_division(slots: Slots, by_code: Mapping[str, Count]) -> Section:
         title = slots.plan.titles.get(code, NOT_IN_PLAN) if slots.plan else NO_PLAN
         rows.append([code, title, *it.cells(), percent(parts, weight * 10**6)])
     note = message(
-        "The percentage by weight multiplies each aggregate's weight in the plan by the share of its slots that have"
-        " a price. A slot counts in the division in which the year's plan places its item."
+        "For the percentage by weight, each aggregate's weight in the plan is multiplied by the share of its slots"
+        " that have a price. A slot counts in the division in which the year's plan places its item."
     )
     heads = columns("=division", "title", *RESPONSE, "#percent by weight")
     return Section("divisions", message("By division"), note, heads, rows, NO_SLOTS)

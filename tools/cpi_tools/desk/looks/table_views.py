@@ -160,7 +160,7 @@ def minor_of(line: Line, money: Optional[Money], group_sign: str) -> int:
 def twice(line: Line, place: Place, before: int) -> str:
     """The message that two lines name the same slot."""
     return _(
-        "Lines {before} and {line} are both for the slot {slot}: keep only one of them.",
+        "Lines {before} and {line} are both for slot {slot}: keep only one of them.",
         before=whole(before),
         line=whole(line.number),
         slot=Code(slot_text(place)),
@@ -311,7 +311,8 @@ def try_prices(month: str) -> Response:
     number, text, money = month_of(month), field("text"), desk().teller.money()
     if flask.request.form.get("digits", digits_of(money)) != digits_of(money):
         fault = _(
-            "The currency's digits were changed after your page was loaded: check the prices, and try them again."
+            "The currency's number of decimal places was changed after your page was loaded: check the prices, and try"
+            " them again."
         )
         return shown_what_if(month, 409, text=text, fault=fault)
     try:

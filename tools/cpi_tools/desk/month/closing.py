@@ -77,8 +77,8 @@ def report_imputed(facts: Facts) -> Section:
         weight = facts.rows[division].weight
         rows.append([division, facts.title(division), *counts, weight, imputed_percent(facts, codes)])
     note = message(
-        "The percentage by weight multiplies each aggregate's weight in use by the"
-        " imputed share of its series' carried prices."
+        "For the percentage by weight, each aggregate's weight in use is multiplied by the imputed share of its"
+        " series' carried prices."
     )
     names = columns("=division", "title", "#series", "#imputed", "#percent", "#weight", "#percent by weight")
     return Section("imputed", message("Imputed prices"), note, names, rows)
@@ -128,7 +128,7 @@ def homogeneity(facts: Facts) -> Section:
         spread = decimal(max(ticks), min(ticks), 1)
         rows.append([code, facts.title(code), len(sample), len(month), spread, *means(month), *means(year)])
     note = message(
-        "These figures are computed beside the index, and aren't published. They show how prices moved, as measured"
+        "These figures are computed in addition to the index, and aren't published. They show how prices moved, as measured"
         " by the geometric mean of their ratios (Jevons), and how far the ratio of sums that the index uses (Dutot) is"
         " from it. A wide spread of prices with a wide gap shows that the aggregate isn't homogeneous: split it in the"
         " next plan."

@@ -105,7 +105,7 @@ def table(facts: Facts) -> Section:
     """The whole table, and what left the plan within a year."""
     cells = (row_of(facts, code) for code in (facts.tables.titles if facts.tables else ()))
     note = message(
-        "Contributions are in percentage points of the change in all items. The file {file} contains the table byte"
+        "Contributions to the change in all items are in percentage points. The file {file} contains the table byte"
         " for byte.",
         file="provisional.csv",
     )
@@ -125,7 +125,7 @@ def table(facts: Facts) -> Section:
 def top(whole: Section) -> Section:
     """All items and the divisions of the whole table."""
     rows = [row for row in whole.rows if depth_of(str(row[0])) <= 1]
-    note = message("Contributions are in percentage points of the change in all items.")
+    note = message("Contributions to the change in all items are in percentage points.")
     title = message("All items and divisions, compared with the previous month")
     return Section("top", title, note, whole.columns, rows, whole.empty)
 

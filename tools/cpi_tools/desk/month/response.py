@@ -139,8 +139,8 @@ def by_division(facts: Facts) -> Section:
         for code, count in found.items()
     ]
     note = message(
-        "A slot counts in the division in which the year's plan places its item. The percentage by weight multiplies"
-        " each aggregate's weight in the plan by the share of its slots that have a price."
+        "A slot counts in the division in which the year's plan places its item. For the percentage by weight, each"
+        " aggregate's weight in the plan is multiplied by the share of its slots that have a price."
     )
     names = columns("=division", "title", *RESPONSE, "#percent by weight")
     return Section("divisions", message("Response by division"), note, names, rows)

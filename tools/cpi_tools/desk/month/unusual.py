@@ -243,7 +243,7 @@ OF_AGGREGATE, OF_DIVISION = message("outside the fences of its aggregate"), mess
 # t: why a price is to be looked at again: it was sent with the confirm button
 CONFIRMED = message("confirmed")
 ALONE = message("the only compared price in its aggregate")
-OTHER = message("a replacement of another quality")
+OTHER = message("a replacement of different quality")
 
 
 class Unusual(NamedTuple):
@@ -333,9 +333,10 @@ def outliers(facts: Facts, width: int) -> Section:
         for unusual_price in greatest
     ]
     note = message(
-        "A price outside its item's tolerance is stored only if it was confirmed. The fences are Tukey's, computed"
-        " from the price ratios of an aggregate that aren't 1 (from those of its division if the aggregate has fewer"
-        " than {least}). Each fence is {times} times as far from the median as the median of its half.",
+        "A price outside its item's tolerance is stored only if it was confirmed. The fences are Tukey's: they"
+        " are computed from the price ratios in an aggregate that differ from 1 (or in its division, if the aggregate"
+        " has fewer than {least}). Each fence is {times} times as far from the median of the ratios as the median of"
+        " the half on its side.",
         least=whole(LEAST_RATIOS),
         times=Figure(decimal(width, 100, 1)),
     )

@@ -242,7 +242,7 @@ def quotes_of(office: StoredOffice, window: Window, tried: Tried) -> Iterator[Re
         if place not in known:
             slot = slot_text(place)
             says = message(
-                "No collector has the slot {slot}: write a collector and a slot, with a slash between them.",
+                "No collector has slot {slot}: write a collector and a slot, with a slash between them.",
                 slot=Code(slot),
             )
             raise NotTried(said_as(f"nobody has slot {slot}: give COLLECTOR/SLOT", says))

@@ -243,7 +243,7 @@ def of_calendar(fields: Fields, names: Names) -> Message:
     """The sentence of `calendar`: a month and its three moments."""
     of, opens, closes, publishes = some(fields, 4)
     return _(
-        "{month}: the window opens {opens} and closes {closes}; the table is published {publishes}.",
+        "{month}: the window opens on {opens} and closes on {closes}; the table is published on {publishes}.",
         month=month(of),
         opens=moment(opens),
         closes=moment(closes),

@@ -109,7 +109,7 @@ def what_stands(office: StoredOffice, records: Sequence[Sequence[str]]) -> list[
 
 # ==== the office's answers to the desk's records, in words
 
-NO_REPLY = _("no reply yet: the page looks it up before it sends anything else")
+NO_REPLY = _("no reply yet: the page looks this record up before it sends anything else")
 NOT_SENT = _("not sent")
 LOST_AND_ABSENT = _("not carried out: its reply was lost, and the office's file doesn't contain it")
 LOST_AND_DONE = _("done: its reply was lost, but the office's file contains it")

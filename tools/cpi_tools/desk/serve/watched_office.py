@@ -390,9 +390,7 @@ def messages_of(records: Sequence[Sequence[str]]) -> list[list[list[str]]]:
         size = len(body_of([fields]))
         if size > MOST_BYTES:
             places = {"record": of_others(" ".join(fields)[:40]), "bytes": whole(size), "most": whole(MOST_BYTES)}
-            raise Fault(
-                message("The record {record}.. has {bytes} bytes: a message can have at most {most}.", **places)
-            )
+            raise Fault(message("The record {record}… has {bytes} bytes: a message can have at most {most}.", **places))
         if size > room:
             messages.append([])
             room = MOST_BYTES
