@@ -335,8 +335,8 @@ def outliers(facts: Facts, width: int) -> Section:
     note = message(
         "A price outside its item's tolerance is stored only if it was confirmed. The fences are Tukey's: they"
         " are computed from the price ratios in an aggregate that differ from 1 (or in its division, if the aggregate"
-        " has fewer than {least}). Each fence is {times} times as far from the median of the ratios as the median of"
-        " the half on its side.",
+        " has fewer than {least}). Each fence is {times} times as far from the mean of the ratios as the mean of the"
+        " ratios on its side.",
         least=whole(LEAST_RATIOS),
         times=Figure(decimal(width, 100, 1)),
     )
