@@ -69,7 +69,7 @@ def test_workbooks_of_libreoffice_are_read_as_their_csv(cpi: Cpi, tmp_path: Path
         records = tmp_path / f"{source}-records"
         ran = run(cpi, "take-in", tmp_path / source, "--write", records, "--minor", 100)
         assert ran.status == 0, (tmp_path / source / "check/problems.csv").read_text()
-        assert ("lacked the first zero" in ran.err) == (source == "xlsx")
+        assert ("lacked the leading zero" in ran.err) == (source == "xlsx")
         found[source] = tables(cpi, replayed(cpi, records, tmp_path / f"{source}.db"))
     assert found["xlsx"] == found["csv"] and len(found["csv"]) == 3
 

@@ -194,14 +194,14 @@ def test_series_of_the_office_are_judged_by_their_last_price(cpi: Cpi, tmp_path:
 def test_the_mark_of_a_text_is_taken_away_and_said(cpi: Cpi, tmp_path: Path) -> None:
     ran = taken(cpi, tmp_path, with_prices((("11", "RICE"), ["'2.45", "'2.50"])), "--check")
     assert ran.status == 0
-    assert "prices.csv, row 3, 2025-12: \"'2.45\" is read without its first '" in ran.err
+    assert "prices.csv, row 3, 2025-12: \"'2.45\" is read without its leading '" in ran.err
 
 
 def test_a_column_is_named_as_the_sheet_has_it(cpi: Cpi, tmp_path: Path) -> None:
     of = office(with_prices((("11", "RICE"), ["'2.45", "2.50"])))
     of["prices"][0] = ["outlet", "item", "2025M12", "2026M01"]
     ran = run(cpi, "take-in", written(tmp_path / "sheets", of), "--minor", 100, "--check")
-    assert ran.status == 0 and "prices.csv, row 3, 2025M12: \"'2.45\" is read without its first '" in ran.err
+    assert ran.status == 0 and "prices.csv, row 3, 2025M12: \"'2.45\" is read without its leading '" in ran.err
 
 
 @pytest.mark.parametrize(

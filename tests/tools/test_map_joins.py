@@ -209,7 +209,7 @@ BAD_QUANTITIES: list[tuple[tuple[str, str, str], tuple[str, str]]] = [
     (("1.00", "half", "g"), ("quantity", '"half" isn\'t a quantity above 0')),
     (("1.00", "", "g"), ("quantity", '"" isn\'t a quantity above 0')),
     # (a kilogram for 1.00 of 300 g is 3.3333..)
-    (("1.00", "300", "g"), ("price", "1.00 * 10/3 isn't whole in minor units (--minor)")),
+    (("1.00", "300", "g"), ("price", "1.00 * 10/3 isn't a whole number of minor units (--minor)")),
 ]
 
 
@@ -228,7 +228,7 @@ def test_a_unit_of_an_item_that_the_map_hasnt_is_a_problem(cpi: Cpi, tmp_path: P
     items = folder / "items.csv"
     items.write_text(items.read_text().replace("RICE,Rice,1 kg", "RICE,Rice,a bag"))
     ran, problems = refused(cpi, folder)
-    says = 'the item RICE has the unit "a bag", which isn\'t a quantity in a unit of the map'
+    says = 'the item RICE has the unit "a bag", but it should be a number with a unit that the map contains'
     assert ran.status == 1 and problems == [("observed.csv", 2, "quantity", says)]
 
 

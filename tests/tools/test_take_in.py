@@ -224,7 +224,7 @@ def test_words_of_a_problem(cpi: Cpi, tmp_path: Path) -> None:
     assert run(cpi, "take-in", folder, "--check").status == 1
     told = because(folder)
     assert told["prices.csv", "5", "value"].endswith(": 2100 after 200, outside the range from 100 to 400")
-    assert told["prices.csv", "6", "value"] == "84.5 isn't whole in minor units (--minor)"
+    assert told["prices.csv", "6", "value"] == "84.5 isn't a whole number of minor units (--minor)"
     wanted = "the plan of 2026: the weights don't add up to 1,000,000, but to 999,999"
     assert told["classification.csv", "9", "weight"] == wanted
     assert told["outlets.csv", "4", "outlet"] == 'the column outlet contains "0"'
@@ -239,7 +239,7 @@ def test_words_of_a_problem(cpi: Cpi, tmp_path: Path) -> None:
             ["--weights", "percent"],
             '"60,0" isn\'t a number with the decimal',
         ),
-        (put("classification", 7, "weight", "60.5"), [], "60.5 isn't whole in parts per million (--weights)"),
+        (put("classification", 7, "weight", "60.5"), [], "60.5 isn't a whole number of parts per million (--weights)"),
         (put("classification", 7, "weight", "-5"), [], 'the column weight contains "-5"'),
         (put("classification", 7, "weight", "-5"), ["--weights", "money"], 'the column weight contains "-5"'),
         (put("classification", 7, "weight", "60%"), [], '"60%" is a percentage'),
@@ -274,7 +274,7 @@ QUOTE = dict(zip(sheets()["prices"][0], sheets()["prices"][4]))
 @pytest.mark.parametrize(
     ("column", "text", "because", "do"),
     [
-        ("collector", "6", "the collector 6 isn't known", "add it to the sheet collectors"),
+        ("collector", "6", "collector 6 isn't known", "add it to the sheet collectors"),
         ("slot", "9", "no series has slot 7/9", "check the sheet series"),
         ("month", "2026-05", "2026-05 has no window", "add the month to the sheet calendar"),
         ("month", "2026-13", '"2026-13" isn\'t a month', "write a month like 2026-01"),
@@ -630,7 +630,7 @@ def test_codes_that_a_spreadsheet_took_for_numbers(cpi: Cpi, tmp_path: Path) -> 
     (folder / "classification.csv").unlink()
     ran = run(cpi, "take-in", folder, "--write", tmp_path / "records")
     assert ran.status == 0
-    told = "classification.xlsx, row 2, code: 8 codes of the classification lacked the first zero, like 0 here"
+    told = "classification.xlsx, row 2, code: 8 codes of the classification lacked the leading zero, like 0 here"
     assert ran.err == f"cpi-tools take-in: warning: {told}\n"
 
 
@@ -713,7 +713,7 @@ def test_more_is_added_to_an_office_whose_file_keeps_its_bytes(cpi: Cpi, standin
     assert run(cpi, "take-in", folder, "--onto", standing, "--check").status == 0
     assert sums(standing) == before
     page = (folder / "check" / "report.html").read_text(encoding="utf-8")
-    assert f"Judged by cpi over a copy of <bdi>{standing}</bdi>." in page
+    assert f"Checked by cpi against a copy of <bdi>{standing}</bdi>." in page
     ran = run(cpi, "take-in", folder, "--onto", standing, "--write", tmp_path / "added")
     assert sums(standing) == before
     assert ran.out.splitlines()[1] == f"cpi replay --db {standing} < {tmp_path / 'added' / 'records-01.csv'}"
@@ -742,8 +742,8 @@ def test_a_price_of_a_frozen_month_that_is_another_one_is_a_warning(cpi: Cpi, st
     ran = run(cpi, "take-in", folder, "--onto", standing, "--write", tmp_path / "added")
     assert (ran.status, ran.out.splitlines()[0]) == (0, "1 quote")
     told = (
-        "prices.csv, row 2: 2026-02 is frozen, so 1 of its prices, from this row on, changes no table until it is frozen"
-        " again"
+        "prices.csv, row 2: 2026-02 is frozen, so 1 of its prices, from this row on, changes no table until the month"
+        " is frozen again"
     )
     assert ran.err == f"cpi-tools take-in: warning: {told}\n"
     before = tables(cpi, standing)
@@ -794,7 +794,7 @@ def test_a_price_goes_to_the_slot_that_has_its_series_now(cpi: Cpi, standing: Pa
     ran = run(cpi, "take-in", folder, "--onto", standing, "--write", tmp_path / "added")
     assert (ran.status, ran.err) == (0, "")
     # (three series, three windows and the price of February are there)
-    assert ran.out.splitlines()[0] == "1 window, 1 quote, 7 rows that the office has already"
+    assert ran.out.splitlines()[0] == "1 window, 1 quote, 7 rows that the office already has"
     with stored_office(replayed(cpi, tmp_path / "added", standing)) as stored:
         assert stored.quotes(202603) == {(8, 2): ("price", 92)}
 

@@ -187,7 +187,7 @@ def test_problems_are_said_in_the_office_s_language(cpi: Cpi, tmp_path: Path, mo
     assert "classification.csv, ligne 9, weight|44 faute 4|le plan de 2026 : " in told
     assert "est 999 999.|Corrigez les pondérations.|" in told and "problèmes ; rien n’est " in told
     assert run(cpi, "take-in", folder, "--check", "--language", "en").status == 1
-    assert "prices.csv, row 6, value|10|84.5 isn't whole in minor units (--minor)|write a price" in text_of(
+    assert "prices.csv, row 6, value|10|84.5 isn't a whole number of minor units (--minor)|write a price" in text_of(
         folder / "check/report.html"
     )
 

@@ -165,7 +165,7 @@ def test_what_was_taken_out_is_passed_over_by_the_office_that_has_it(cpi: Cpi, o
     # (a plan is one row of what is sent, and three sheets of rows of what is taken out)
     plans = {name: len(rows_of(tmp_path / f"files/{name}.csv")) for name in ("classification", "places", "plans")}
     standing = rows - sum(plans.values()) + plans["plans"]
-    assert ran.out == f"nothing new, {standing} rows that the office has already\n"
+    assert ran.out == f"nothing new, {standing} rows that the office already has\n"
     ran = run(cpi, "take-in", tmp_path / "files", "--onto", office, "--write", tmp_path / "records")
     assert (ran.status, ran.out.count("\n"), [*(tmp_path / "records").iterdir()]) == (0, 1, [])
     assert sums(office) == before
@@ -192,7 +192,7 @@ def test_series_without_their_slots_keep_those_that_they_have(cpi: Cpi, office: 
     rows = [",".join(columns), *(",".join(row[name] for name in columns) for row in series)]
     (tmp_path / "one/series.csv").write_text("\n".join(rows), encoding="utf-8")
     ran = run(cpi, "take-in", tmp_path / "one", "--onto", office, "--check")
-    assert ran == (0, f"nothing new, {len(series)} rows that the office has already\n", "")
+    assert ran == (0, f"nothing new, {len(series)} rows that the office already has\n", "")
 
 
 def test_what_differs_from_what_was_taken_out_is_sent(cpi: Cpi, office: Path, tmp_path: Path) -> None:

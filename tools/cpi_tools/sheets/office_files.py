@@ -374,13 +374,13 @@ class OfficeFiles:
         store.fill_rows(itertools.chain.from_iterable(cells.make_rows(store)))
         if options.rule.is_any:
             for origin, it in store.settle(options.rule):
-                cells.faults.add(SheetFault(origin, told_marks(it), message("keep only the prices of one mark")))
+                cells.faults.add(SheetFault(origin, told_marks(it), message("keep only the prices with one mark")))
         same = self._tell_repeated(cells)
         for month in store.months():
             self.taken.passed_over["prices"] += store.take_stored(self._known.prices_of(month))
         self._look_for_codes(cells)
         if not cells.count and not cells.faults.all():
-            do = message("write its prices below the columns, or remove the sheet")
+            do = message("write its prices below the column names, or remove the sheet")
             cells.faults.add(SheetFault(cells.heading, message("the sheet contains no price"), do))
         self.taken.readings += [*cells.readings(), *self._source.readings]
         self.taken.warnings = [*cells.unmet_codes(), *self.taken.warnings, *same]
@@ -424,7 +424,7 @@ class OfficeFiles:
                     first=cut(it.first),
                     **named,
                 )
-                do = message("keep the correct one; a correction of a frozen month needs its revision")
+                do = message("keep the correct one; a correction to a frozen month needs its revision")
                 cells.faults.add(SheetFault(origin, because, do))
         return [SheetFault(origin, told_again(count, named), LEAVE_ONE) for origin, named in same]
 
@@ -463,8 +463,10 @@ class OfficeFiles:
         if late is None:
             return
         because = message_of(
-            "{month} is frozen, so {count} of its prices, from this row on, changes no table until it is frozen again",
-            "{month} is frozen, so {count} of its prices, from this row on, change no table until it is frozen again",
+            "{month} is frozen, so {count} of its prices, from this row on, changes no table until the month is"
+            " frozen again",
+            "{month} is frozen, so {count} of its prices, from this row on, change no table until the month is"
+            " frozen again",
             late.number,
             month=of_others(month),
         )
@@ -522,8 +524,8 @@ def by_revision(releases: Sequence[Row]) -> list[tuple[int, Row]]:
 def told_marks(differ: Differ) -> Message:
     """The text about a mean of prices with two marks."""
     return message(
-        'the price has the mark "{other}", but another price of its month has "{one}": prices with two marks have no'
-        " mean",
+        'the price has the mark "{other}", but another price of its month has "{one}": prices with different'
+        " marks have no mean",
         one=of_others(differ.one),
         other=of_others(differ.other),
     )

@@ -108,13 +108,13 @@ class PlanRows:
         if self._mended:
             origin, code = next(iter(self._mended.items()))
             because = message_of(
-                "{count} code of the classification lacked the first zero, like {code} here",
-                "{count} codes of the classification lacked the first zero, like {code} here",
+                "{count} code of the classification lacked the leading zero, like {code} here",
+                "{count} codes of the classification lacked the leading zero, like {code} here",
                 len(self._mended),
                 code=of_others(code),
             )
             do = message(
-                "nothing, if {code} means {mended}, as it is read; a column formatted as text keeps the zero",
+                "nothing, if {code} means {mended}, which is how it is read; a column formatted as text keeps the zero",
                 code=of_others(code),
                 mended=of_others(f"0{code}"),
             )
@@ -136,7 +136,9 @@ class PlanRows:
         is_whole = self._unit != "ppm" or number.denominator == 1
         if is_whole:
             return ""
-        return message("{text} isn't whole in parts per million ({option})", text=of_others(text), option=OPTION)
+        return message(
+            "{text} isn't a whole number of parts per million ({option})", text=of_others(text), option=OPTION
+        )
 
     def _weights(self, classification: Sequence[Row]) -> dict[Origin, str]:
         """Weights in parts per million, by their rows; a text that isn't a number, or not a whole one then, isn't among
@@ -186,7 +188,7 @@ class PlanRows:
         for row in rows if whole and self._unit == "money" else ():
             if doubt := self._numbers.told_thousands(row["weight"]):
                 because = message(
-                    "{doubt}, since row {row} has {weight}",
+                    "{doubt}, because row {row} has {weight}",
                     doubt=doubt,
                     row=whole[0].origin.row,
                     weight=of_others(whole[0]["weight"]),

@@ -305,7 +305,7 @@ class PriceCells:
             because = message('no series has the item "{item}" in the outlet "{outlet}" in {month}', **named)
         else:
             because = message('no series has the item "{item}" in the outlet "{outlet}"', **named)
-        do = message("check the outlet, the item and the months of its series, or give collector and slot")
+        do = message("check the outlet, the item and the months of its series, or give the collector and the slot")
         return SheetFault(row.at("item"), because, do)
 
     # ---- quotes
@@ -461,7 +461,7 @@ class PriceCells:
         if minor.denominator == 1:
             return str(minor.numerator), ""
         hint = message(
-            "{text} isn't whole in minor units ({option})",
+            "{text} isn't a whole number of minor units ({option})",
             text=of_others(f"{text} * {share}" if share else text),
             option=of_others("--minor"),
         )

@@ -79,7 +79,7 @@ WANTED: dict[tuple[str, str], Message] = {
     ("outlet", "name"): TEXT,
     ("collector", "collector"): number(1, 9999),
     ("collector", "key"): message(
-        "write 32 characters of 0-9 and a-f, or leave the cell empty to have a key drawn ({guide})", guide=GUIDE
+        "write 32 characters of 0-9 and a-f, or leave the cell empty to have a key generated ({guide})", guide=GUIDE
     ),
     ("assign", "collector"): number(1, 9999),
     ("assign", "slot"): message(
@@ -120,7 +120,7 @@ WANTED: dict[tuple[str, str], Message] = {
         "write a time like {time}, or seconds since 1970 UTC ({guide})", time=A_TIME, guide=GUIDE
     ),
     ("freeze", "carry"): message(
-        "write codes of elementary aggregates like {code}, with blanks between them ({guide})",
+        "write codes of elementary aggregates like {code}, with spaces between them ({guide})",
         code=of_others("01.1.1.1-01"),
         guide=GUIDE,
     ),
@@ -143,7 +143,7 @@ REASONS = {name: of_others(name) for name in ("stock", "closed", "gone", "refuse
 REASON = message("write {stock}, {closed}, {gone} or {refused} ({guide})", **REASONS, guide=GUIDE)
 PRICE = message(
     "write a price from 1 to 100,000,000 minor units ({minor}), as {point} or {comma} ({decimal}), by itself or after"
-    " {comparable} or {other}; or {stock}, {closed}, {gone} or {refused} ({guide})",
+    " the word {comparable} or {other}; or write one of the words {stock}, {closed}, {gone} and {refused} ({guide})",
     minor=of_others("--minor"),
     point=of_others("2.40"),
     comma=of_others("2,40"),
@@ -167,7 +167,8 @@ def words_of(row: Sent, reply: Reply, column: str) -> Words:
             **{name: Code(reply[name]) for name in ("last", "low", "high")},
         )
         do = message(
-            "look again; correct it, or confirm it with a column {column}, or all prices outside with {option}",
+            "look again; correct it, or confirm it with a column {column}, or confirm all prices outside"
+            " their ranges with {option}",
             column=of_others("confirm"),
             option=of_others("--confirm-history"),
         )
@@ -243,15 +244,17 @@ CHECK_WINDOW = message("check its row in {sheet}", sheet=of_others("calendar"))
 
 OWN: dict[tuple[str, int], Callable[[Sent], Words]] = {
     ("item", 40): lambda row: Words(
-        message("the item {item} is registered with other content, and can't be changed", item=_field(row, 1)),
-        message("write its row as it was registered, or take another code for another item"),
+        message("the item {item} is registered with different content, and can't be changed", item=_field(row, 1)),
+        message("write its row as it was registered, or use another code for a different item"),
     ),
     ("outlet", 40): lambda row: Words(
-        message("the outlet {outlet} is registered with other content, and can't be changed", outlet=_field(row, 1)),
-        message("write its row as it was registered, or take another number for another outlet"),
+        message(
+            "the outlet {outlet} is registered with different content, and can't be changed", outlet=_field(row, 1)
+        ),
+        message("write its row as it was registered, or use another number for a different outlet"),
     ),
     ("collector", 40): lambda row: Words(
-        message("the collector {number} has another key, or the key is another collector's", number=_field(row, 1)),
+        message("collector {number} has another key, or the key is another collector's", number=_field(row, 1)),
         message("write the collector's own key, or leave it empty; give a new collector the next free number"),
     ),
     ("assign", 40): lambda row: Words(
@@ -266,22 +269,20 @@ OWN: dict[tuple[str, int], Callable[[Sent], Words]] = {
         message("the outlet {outlet} isn't known", outlet=_field(row, 3)),
         message("add it to the sheet {sheet}", sheet=of_others("outlets")),
     ),
-    ("assign", 43): lambda row: Words(
-        message("the collector {number} isn't known", number=_field(row, 1)), ADD_COLLECTOR
-    ),
+    ("assign", 43): lambda row: Words(message("collector {number} isn't known", number=_field(row, 1)), ADD_COLLECTOR),
     ("handover", 20): lambda row: Words(
-        message("the collector {number} has no slot {slot}", number=_field(row, 1), slot=_field(row, 2)),
+        message("collector {number} has no slot {slot}", number=_field(row, 1), slot=_field(row, 2)),
         message("check the collector and the slot in {sheet}", sheet=of_others("series")),
     ),
     ("handover", 40): lambda row: Words(
         message("slot {slot} is taken", slot=_slot(row, 3, 4)), message("take a free slot of the new collector")
     ),
     ("handover", 43): lambda row: Words(
-        message("the collector {number} or {other} isn't known", number=_field(row, 1), other=_field(row, 3)),
+        message("collector {number} or {other} isn't known", number=_field(row, 1), other=_field(row, 3)),
         ADD_COLLECTOR,
     ),
     ("quote", 11): lambda row: Words(
-        message("the collector {number} isn't known", number=of_others(row.collector)),
+        message("collector {number} isn't known", number=of_others(row.collector)),
         message("add it to the sheet {sheet}, or correct its key there", sheet=of_others("collectors")),
     ),
     ("quote", 20): lambda row: Words(
@@ -308,7 +309,7 @@ OWN: dict[tuple[str, int], Callable[[Sent], Words]] = {
         message("write it as a price"),
     ),
     ("quote", 27): lambda row: Words(
-        message("the receipts of the collector {number} are used up", number=of_others(row.collector)),
+        message("the receipts of collector {number} are used up", number=of_others(row.collector)),
         message("register a new number with slots of its own"),
     ),
     ("quote", 90): lambda _: Words(message("memory or the disk failed"), message("nothing was changed; run it again")),

@@ -75,7 +75,7 @@ def _rows(path: Path, encoding: str, names: Collection[str]) -> Iterator[list[st
                 yield row
     except OSError as fault:
         raise BadSheet(
-            Origin(label, 0), own_line(because_of(fault)), message("see why the file can't be read")
+            Origin(label, 0), own_line(because_of(fault)), message("find out why the file can't be read")
         ) from fault
     except UnicodeError as fault:
         if encoding:
@@ -240,7 +240,7 @@ class Source:
             self._look_into(file, self._workbooks[file])
         else:
             kinds = row_of([*map(of_others, (*TEXTS, *WORKBOOKS))])
-            because = message("the file isn't read: its kind is none of {kinds}", kinds=kinds)
+            because = message("the file isn't read: it isn't one of these kinds: {kinds}", kinds=kinds)
             self._tell(label_of(file), because, CONVERT if kind in CONVERTED else SAVE)
 
     def _look_into(self, file: Path, book: Path) -> None:
@@ -448,7 +448,9 @@ def remove_mark(cell: str) -> str:
 
 def told_marked(cell: str) -> Message:
     """The text about a mark that was removed."""
-    return message('"{text}" is read without its first \', which marks a text in a spreadsheet', text=cut(cell))
+    return message(
+        '"{text}" is read without its leading \', which marks a cell as text in a spreadsheet', text=cut(cell)
+    )
 
 
 def is_heading(sheet: Sheet, origin: Origin, line: Sequence[str]) -> bool:

@@ -316,7 +316,7 @@ def told_mean(mean: Fraction) -> Message:
     """A hint about a mean that isn't whole."""
     option = of_others("--minor")
     return message(
-        "the mean, {number}, isn't whole in minor units ({option})", number=of_others(str(mean)), option=option
+        "the mean, {number}, isn't a whole number of minor units ({option})", number=of_others(str(mean)), option=option
     )
 
 

@@ -69,7 +69,7 @@ def summary(taken: Taken, judged: Judged) -> Message:
     count = sum(taken.passed_over.values())
     if not count:
         return row(new) if new else message("nothing")
-    known = message_of("{count} row that the office has already", "{count} rows that the office has already", count)
+    known = message_of("{count} row that the office already has", "{count} rows that the office already has", count)
     return row([*(new or [message("nothing new")]), known])
 
 
@@ -104,9 +104,9 @@ def page(name: str, onto: Optional[Path], taken: Taken, judged: Judged, teller: 
 def judged_over(onto: Optional[Path]) -> Message:
     """The sentence about the office over which the files were judged."""
     if onto is None:
-        return message("Judged by cpi over an empty office in memory. Nothing was written to an office.")
+        return message("Checked by cpi against an empty office in memory. Nothing was written to an office.")
     file = of_others(str(onto))
-    return message("Judged by cpi over a copy of {file}. Nothing was written to an office.", file=file)
+    return message("Checked by cpi against a copy of {file}. Nothing was written to an office.", file=file)
 
 
 def verdict(refused: int, doubted: int = 0) -> Message:

@@ -53,7 +53,7 @@ class Findings:
             because = message(
                 'the map leaves "{text}" out (number of times: {count})', text=cut(text), count=whole(count)
             )
-            alike.add(SheetFault(origin, because, message("nothing, if it isn't a price or a row of the office")))
+            alike.add(SheetFault(origin, because, message("nothing, if it is neither a price nor a row of the office")))
         alike.end()
         self._left.clear()
 
@@ -291,7 +291,7 @@ class Measures:
         factor = self._units.get(match[2].lower()) if match else None
         if number is None or number <= 0 or factor is None:
             because = message(
-                'the item {item} has the unit "{text}", which isn\'t a quantity in a unit of the map',
+                'the item {item} has the unit "{text}", but it should be a number with a unit that the map contains',
                 item=of_others(item),
                 text=cut(text),
             )
