@@ -8,7 +8,7 @@ import re
 import shutil
 import subprocess
 import sys
-from collections.abc import Iterable, Iterator
+from collections.abc import Iterable, Iterator, Mapping
 from html.parser import HTMLParser
 from pathlib import Path
 from typing import Any, Optional
@@ -23,6 +23,7 @@ sys.path.insert(0, str(ROOT / "tools"))
 
 import catalogues  # noqa: E402
 from cpi_tools.sheets.sheet_numbers import NAMES as NAMES_OF_MONTHS  # noqa: E402
+from cpi_tools.text.languages import speech_of  # noqa: E402
 
 LANGUAGES = catalogues.codes(ROOT / "po")
 
@@ -32,6 +33,41 @@ def source() -> Catalog:
     """The texts of all sources."""
     template: Catalog = catalogues.template(ROOT)
     return template
+
+
+# ---- the spaces of French
+
+
+SPACES: Mapping[str, str] = {":": "\u00a0", "»": "\u00a0", **dict.fromkeys(";?!%", "\u202f")}
+"""By mark, the space before it in French: one that doesn't break, and a narrow one except before a colon and within
+quotation marks (Lexique des règles typographiques en usage à l'Imprimerie nationale)."""
+
+BEFORE_MARKS = re.compile(r"(.)([:»;?!]|%(?![(\w]))(?=[^\w/]|$)")
+"""A mark with the character before it; a colon in a moment or an address isn't one, nor is the sign of a place."""
+
+ENTITY = re.compile("&[a-z]+;")
+"""A character of a page by its name, with a semicolon of its own."""
+
+
+def wrong_spaces(text: str) -> list[str]:
+    """The marks of a French text that have another space before them, and the quotation marks with another one after."""
+    plain = ENTITY.sub("\u00a0", text)
+    wrong = [match[0] for match in BEFORE_MARKS.finditer(plain) if match[1] != SPACES[match[2]]]
+    return wrong + re.findall("«[^\u00a0]", plain)
+
+
+def test_french_has_one_rule_for_the_spaces_before_its_marks() -> None:
+    french = catalogues.read(ROOT / "po", "fr")
+    forms = [form for message in french if message.id for form in catalogues.forms_of(message)]
+    assert len(forms) > 1000
+    assert {form: wrong for form in forms if (wrong := wrong_spaces(form))} == {}
+    assert speech_of("fr").percent("2.2")[3:] == f"{SPACES['%']}%"
+
+
+def test_a_wrong_space_is_found() -> None:
+    right = "à 09:30\u00a0: 2,2\u202f% ou «\u00a0rien\u00a0»\u202f? %(month)s&nbsp;=&nbsp;100, https://a.example"
+    assert wrong_spaces(right) == []
+    assert wrong_spaces("un : deux; trois\u00a0% « quatre »") == [" :", "x;", "\u00a0%", " »", "« "]
 
 
 # ---- no text is outside

@@ -15,6 +15,9 @@ from markupsafe import Markup, escape
 from .languages import LATIN, MINUS, Language, Speech
 from .others import CLOSES, LEFT_TO_RIGHT
 
+BREAKLESS = "\xa0"
+"""NO-BREAK SPACE."""
+
 ZEROS: Mapping[str, str] = {"latn": "0", "arab": "\u0660", "deva": "\u0966"}
 """The first digit of each system."""
 
@@ -23,6 +26,10 @@ ARABIC: Mapping[str, str] = {
 }  # fmt: skip
 """The signs that go with the digits `arab` by CLDR; Babel only provides the signs for a language's Latin digits. The
 signs for `deva` are the same as for Latin digits."""
+
+NARROW: Mapping[str, str] = {"fr": "\u202f"}
+"""By language, the space before a percent sign if it is another one than Babel's locale has: French has a narrow one, as
+before a question mark, in newer tables of CLDR too."""
 
 NUMBER = re.compile(r"[#0,.]+")
 
@@ -51,7 +58,8 @@ class Cldr(Speech):
         latin = {locale.number_symbols[name]: signs[name] for name in ("group", "decimal")}
         self._written = str.maketrans({**own, **latin})
         before, after = NUMBER.split(locale.percent_formats[None].pattern, maxsplit=1)
-        self._percent = [part.replace("%", signs["percentSign"]) for part in (before, after)]
+        space = NARROW.get(locale.language, BREAKLESS)
+        self._percent = [part.replace("%", signs["percentSign"]).replace(BREAKLESS, space) for part in (before, after)]
         if digits != LATIN:
             self.language = language._replace(
                 gettext=lambda text: self.write_numbers(language.gettext(text)),
