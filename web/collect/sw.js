@@ -4,7 +4,7 @@
 // writes it. What an office sets itself (SET) is kept too, and read anew behind each start, so that the next one has it; and
 // so are the catalogues of languages that this phone has spoken, and the files of notes and questions if the office takes
 // them: the page names these.
-const VERSION = "174aab67b632c0fb";
+const VERSION = "821a5d3d2f500dd9";
 const FILES = [
   "./", "answers.js", "app.js", "collect.css", "deadline.js", "drafts.js", "entry.js", "export.js", "form.js", "head.js",
   "icon.svg", "kept-lists.js", "key.js", "languages.js", "line.js", "list.js", "lists.js", "look.js",
