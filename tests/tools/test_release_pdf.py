@@ -136,7 +136,36 @@ def test_arabic_is_written_from_the_right() -> None:
     ],
 )
 def test_a_line_from_the_right_begins_with_its_mark(text: str, wanted: str) -> None:
-    assert paper.with_marks(text, "rtl") == wanted and paper.with_marks(text, "ltr") == text
+    assert paper.with_marks(text, "rtl") == wanted
+
+
+@pytest.mark.parametrize(
+    ("text", "wanted"),
+    [
+        ("\u2068خبز أبيض\u2069 (diciembre de 2026 = 100)", "\u200e\u2068خبز\u00a0أبيض\u2069 (diciembre de 2026 = 100)"),
+        (
+            "Subió \u2068خبز\u2069, y \u2068لبن 2\u2069 bajó",
+            "Subió \u200e\u2068خبز\u2069, y \u200e\u2068لبن 2\u2069 bajó",
+        ),
+        (f"de {'كلمات طويلة ' * 9}y", f"de \u200e{'كلمات طويلة ' * 9}y"),
+        ("Pan (diciembre de 2026 = 100)", "Pan (diciembre de 2026 = 100)"),
+    ],
+)
+def test_foreign_words_in_a_line_from_the_left_begin_with_its_mark(text: str, wanted: str) -> None:
+    assert paper.with_marks(text, "ltr") == wanted
+
+
+def test_an_arabic_title_in_a_picture_from_the_left_is_drawn_as_pixels(monkeypatch: pytest.MonkeyPatch) -> None:
+    """The picture of what divisions give has the titles of divisions; that of the index has none."""
+    arabic = CONFIG._replace(speaks=SPEAKS._replace(own={"es": Own({}, {"01": "خبز"})}))
+    on_sheets = placed("es", config=arabic)
+    pictures = on_sheets.paper._words(on_sheets.release)["pictures"]
+    assert isinstance(pictures, list)
+    needs = [picture.needs_pixels() for picture in pictures]
+    assert any(needs) and not all(needs)
+    assert "rsvg" in on_sheets.paper.source(on_sheets.release).lower()
+    plain = placed("es")
+    assert "rsvg" not in plain.paper.source(plain.release).lower()
 
 
 def test_the_same_tables_give_the_same_bytes(english: bytes, monkeypatch: pytest.MonkeyPatch) -> None:

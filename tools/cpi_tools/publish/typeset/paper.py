@@ -55,6 +55,11 @@ class PaperPicture(NamedTuple):
         """The picture as SVG."""
         return plot_of(self.chart, LETTERS, PIXELS)
 
+    def needs_pixels(self) -> bool:
+        """Whether a word of it is written from right to left: WeasyPrint writes the words of a picture letter by letter from
+        the left."""
+        return re.search(f"[{FROM_THE_RIGHT}]", self.lines()) is not None
+
 
 def pictures_of(release: Release, rows: Sequence[Given]) -> list[PaperPicture]:
     """The pictures of a release: the change of its headline, the index, and what divisions give if that is known."""
@@ -69,11 +74,10 @@ def _picture(chart: Chart) -> PaperPicture:
 
 
 def address_of(picture: PaperPicture) -> str:
-    """An address that has the whole picture: as lines, or as pixels in a language that is written from right to left, since
-    WeasyPrint writes the words of a picture letter by letter from the left. Raises Fault if nothing here draws pixels.
-    """
+    """An address that has the whole picture: as lines, or as pixels if it needs them. Raises Fault if nothing here draws
+    pixels."""
     lines = picture.lines()
-    if picture.chart.speech.language.dir == "ltr":
+    if not picture.needs_pixels():
         return f"data:image/svg+xml;base64,{base64.b64encode(lines.encode()).decode()}"
     return f"data:image/png;base64,{base64.b64encode(_drawing().png_of(lines)).decode()}"
 
@@ -158,8 +162,12 @@ SIZES = (9.5, 8.5, 7.5)
 """The sizes of the letters in points: the first one with which a release fits on its sheets, otherwise the last one."""
 
 LATIN = "A-Za-z\u00c0-\u024f\u0370-\u058f"
-FOREIGN = re.compile(f"\u2068?[{LATIN}](?:[^\u0590-\u08ff\u2066-\u2069]*[{LATIN}\\d)/])?")
-"""Words of a script from left to right in a text from right to left, with the isolate that they begin."""
+FROM_THE_RIGHT = "\u0590-\u08ff\ufb1d-\ufdff\ufe70-\ufeff"
+FOREIGN: Mapping[str, re.Pattern[str]] = {
+    "rtl": re.compile(f"\u2068?[{LATIN}](?:[^\u0590-\u08ff\u2066-\u2069]*[{LATIN}\\d)/])?"),
+    "ltr": re.compile(f"\u2068?[{FROM_THE_RIGHT}](?:[^{LATIN}\u2066-\u2069]*[{FROM_THE_RIGHT}])?"),
+}
+"""By the direction of a text, words of a script that is written in the other one, with the isolate that they begin."""
 
 FIGURE = re.compile(r"(?<!\S)(?=[^\s\w]*\u200e)")
 """The place before a figure that begins with a sign or a bracket, in a text from right to left."""
@@ -167,8 +175,8 @@ FIGURE = re.compile(r"(?<!\S)(?=[^\s\w]*\u200e)")
 LONGEST = 50
 """Foreign words of so many letters at most stay on one line."""
 
-FROM_RIGHT = "\u200f"
-"""RIGHT-TO-LEFT MARK: a line that begins with it is one from right to left."""
+FROM_RIGHT, FROM_LEFT = "\u200f", "\u200e"
+"""RIGHT-TO-LEFT MARK and LEFT-TO-RIGHT MARK: a line that begins with one of them has its direction."""
 
 
 class Layout(NamedTuple):
@@ -211,7 +219,9 @@ class Paper:
         """The sources that the PDF of a release names: the sum of its page, with pictures as lines, and what writes
         it. Raises Fault."""
         page = self._page({**self._words(release), **Layout()._asdict()})
-        drawn = f", {drawing_version()}" if self.speech.language.dir == "rtl" else ""
+        rows, _ = given_in(release, self._contributions)
+        needs_pixels = any(picture.needs_pixels() for picture in pictures_of(release, rows))
+        drawn = f", {drawing_version()}" if needs_pixels else ""
         return f"SHA-256 of HTML {hashlib.sha256(page.encode()).hexdigest()}, {writer_version()}{drawn}"
 
     def _page(self, words: Mapping[str, object]) -> str:
@@ -250,15 +260,17 @@ def plain(text: object, direction: str) -> str:
 
 
 def with_marks(text: str, direction: str) -> str:
-    """A text for such an element. WeasyPrint takes the direction of a line from its first letter, so in a text from right to
-    left foreign words and figures begin with a mark, and foreign words aren't parted."""
-    return FIGURE.sub(FROM_RIGHT, FOREIGN.sub(_mark, text)) if direction == "rtl" else text
+    """A text for such an element. WeasyPrint takes the direction of a line from its first letter, so foreign words, and
+    figures in a text from right to left, begin with a mark, and foreign words aren't parted."""
+    mark = FROM_RIGHT if direction == "rtl" else FROM_LEFT
+    marked = FOREIGN[direction].sub(partial(_mark, mark), text)
+    return FIGURE.sub(mark, marked) if direction == "rtl" else marked
 
 
-def _mark(match: re.Match[str]) -> str:
-    """Foreign words with their mark."""
+def _mark(mark: str, match: re.Match[str]) -> str:
+    """Foreign words with a mark."""
     words = match[0] if len(match[0]) > LONGEST else match[0].replace(" ", "\u00a0")
-    return f"{FROM_RIGHT}{words}"
+    return f"{mark}{words}"
 
 
 def css_text(text: str) -> str:
