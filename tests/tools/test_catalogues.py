@@ -50,7 +50,7 @@ ENTITY = re.compile("&[a-z]+;")
 
 
 def wrong_spaces(text: str) -> list[str]:
-    """The marks of a French text that have another space before them, and the quotation marks with another one after."""
+    """The marks of a French text with another space before them, and the quotation marks with another one after."""
     plain = ENTITY.sub("\u00a0", text)
     wrong = [match[0] for match in BEFORE_MARKS.finditer(plain) if match[1] != SPACES[match[2]]]
     return wrong + re.findall("«[^\u00a0]", plain)

@@ -28,8 +28,8 @@ ARABIC: Mapping[str, str] = {
 signs for `deva` are the same as for Latin digits."""
 
 NARROW: Mapping[str, str] = {"fr": "\u202f"}
-"""By language, the space before a percent sign if it is another one than Babel's locale has: French has a narrow one, as
-before a question mark, in newer tables of CLDR too."""
+"""By language, the space before a percent sign if Babel's locale has another one: French has a narrow one, as before a
+question mark."""
 
 NUMBER = re.compile(r"[#0,.]+")
 

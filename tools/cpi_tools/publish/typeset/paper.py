@@ -56,8 +56,8 @@ class PaperPicture(NamedTuple):
         return plot_of(self.chart, LETTERS, PIXELS)
 
     def needs_pixels(self) -> bool:
-        """Whether a word of it is written from right to left: WeasyPrint writes the words of a picture letter by letter from
-        the left."""
+        """Whether a word of it is written from right to left: WeasyPrint writes the words of a picture letter by
+        letter from the left."""
         return re.search(f"[{FROM_THE_RIGHT}]", self.lines()) is not None
 
 
@@ -74,8 +74,8 @@ def _picture(chart: Chart) -> PaperPicture:
 
 
 def address_of(picture: PaperPicture) -> str:
-    """An address that has the whole picture: as lines, or as pixels if it needs them. Raises Fault if nothing here draws
-    pixels."""
+    """An address that has the whole picture: as lines, or as pixels if it needs them. Raises Fault if nothing here
+    draws pixels."""
     lines = picture.lines()
     if not picture.needs_pixels():
         return f"data:image/svg+xml;base64,{base64.b64encode(lines.encode()).decode()}"
