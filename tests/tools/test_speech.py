@@ -29,7 +29,7 @@ SAID = {
     ("ar", "arab"): ["١٠٥٫٧", "\u061c+٠٫٣٪\u061c", "\u061c−٠٫٣٪\u061c", "١٢٫٥٠٪\u061c", "١٬٢٣٤٬٥٦٧", "يناير ٢٠٢٦",
                      "٢٠٢٦", "يناير", "٢٨ يناير ٢٠٢٦، الساعة \u2066٠٩:٠٥ CET\u2069", "a وb وc"],
 }  # fmt: skip
-"""By CLDR's tables: number symbols, percent patterns, dates and lists."""
+"""By CLDR's tables: number symbols, percent patterns, dates and lists; French has a narrow space before a percent."""
 
 
 @pytest.mark.parametrize(("code", "digits"), SAID)
