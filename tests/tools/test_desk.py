@@ -418,7 +418,10 @@ def test_what_a_revision_would_change_is_tried_beforehand(cpi: Cpi, small: Path)
     ran = run(cpi, "desk", "what-if", small, "2026-02", "--at", 6000, "--price", "8/1=264")
     assert ran.status == 0 and RICE in ran.out and bytes_of(small) == before
     older = run(cpi, "desk", "what-if", small, "2026-01", "--at", 6000, "--price", "8/1=264")
-    assert "calendar 2026-01 1000 2000 3001: refused by 50: the month is frozen, and a later one" in older.err
+    assert (
+        "calendar 2026-01 1000 2000 3001: refused by 50: this row can't reopen the frozen month: a later month is frozen too"
+        in older.err
+    )
 
 
 def test_a_quote_that_cannot_be_is_told_without_its_key(cpi: Cpi, small: Path) -> None:

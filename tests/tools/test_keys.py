@@ -183,7 +183,7 @@ def test_only_the_collectors_that_are_chosen(office: Path) -> None:
 
 @pytest.mark.parametrize(
     ("language", "direction", "heading", "left"),
-    [("ar", ' dir="rtl"', "جامع الأسعار 2: Anna", r"[A-Za-z]{2,}"), ("fr", "", "Enquêteur 2 : Anna", r"Collector|sign in|the"),
+    [("ar", ' dir="rtl"', "جامع الأسعار 2: Anna", r"[A-Za-z]{2,}"), ("fr", "", "Enquêteur 2\u00a0: Anna", r"Collector|sign in|the"),
      ("es", "", "Encuestador 2: Anna", r"Collector|sign in|the")],
 )  # fmt: skip
 def test_sheets_in_another_language(office: Path, language: str, direction: str, heading: str, left: str) -> None:

@@ -62,7 +62,7 @@ def test_a_collector_chooses_a_language_and_it_stays_without_a_line(phone: Phone
     browser.wait_text("#line", "Hors ligne")
     browser.wait_text("#month", browser.run("return new Intl.DateTimeFormat('fr', { month: 'long' }).format()"))
     phone.enter(1, "3.21")
-    browser.wait_text("#line", "Hors ligne : 1 saisie gardée sur ce téléphone")
+    browser.wait_text("#line", "Hors ligne\u00a0: 1 saisie gardée sur ce téléphone")
     assert browser.faults() == []
     browser.offline(False)
     assert stage.wait_for_quotes(ANNA) == [[1, NOW, "price", 321, 10]]
